@@ -1,0 +1,32 @@
+-- Laws on lists that are filled from the front.
+use Prim.Native.Nat.{ℕ, zero, suc, _+_, _≤_, _<_}
+use mathlib.Core.Path.{_≡_, refl, sym, _∙_}
+use mathlib.Core.List.{List}
+use native.Mathlib.Omega.{arith}
+use native.Mathlib.Nat.{not-suc-le-zero}
+use native.Mathlib.Decide.{decLt}
+use borrow.Author.Count.{below-more}
+use lib.ListN.{length, getD, set, replicate, length-set, length-replicate, getD-replicate, List·getD-eq-default}
+use lib.Seq.{getD-set-same, getD-set-other}
+use Rattle.memory.specs.Meaning.Slices.{Zero}
+use Rattle.memory.specs.Working.Filling.{Filled}
+
+-- a list of n z's is filled up to 0, and a store of f i at i carries it to i + 1
+pub filled-none : {A : Type 0} (f : ℕ → A) (z : A) (n : ℕ) → Filled f z n 0 (replicate n z)
+filled-none f z n = record { size = length-replicate n z; front = λ k h. absurd (not-suc-le-zero h); rest = λ k h. go k (decLt k n) }
+  where
+    go : (k : ℕ) → Dec (k < n) → getD (replicate n z) k z ≡ z
+    go k (yes h) = getD-replicate n k z z h
+    go k (no h) = List·getD-eq-default (replicate n z) z (rw length-replicate (omega arith))
+
+pub filled-zero : (f : ℕ → ℕ) (l : List ℕ) → Zero l → Filled f 0 (length l) 0 l
+filled-zero f l z = record { size = refl; front = λ k h. absurd (not-suc-le-zero h); rest = z }
+
+pub filled-more : {A : Type 0} (f : ℕ → A) (z : A) (n i : ℕ) (l : List A) (v : A) → i < n → v ≡ f i → Filled f z n i l → Filled f z n (i + 1) (set l i v)
+filled-more f z n i l v h e w = record {
+  size = length-set l i v ∙ w .size;
+  front = below-more (λ (k : ℕ). getD (set l i v) k z ≡ f k) i
+      (λ k lt. getD-set-other l i k v z (λ q. omega arith) ∙ w .front k lt)
+      (getD-set-same l i v z (rw (w .size) h) ∙ e);
+  rest = λ k le. getD-set-other l i k v z (λ q. omega arith) ∙ w .rest k (omega arith);
+}

@@ -1,0 +1,54 @@
+// Slices that a caller lends, and the numbers by which a call is turned away.
+ghost use mathlib.Core.Path.{_≡_};
+ghost use Prim.Native.Nat.{min};
+ghost use lib.ListN.{length};
+ghost use Rattle.memory.specs.Meaning.Slices.{Cleared};
+ghost use Rattle.memory.specs.Meaning.Refusals.{lowerNumber};
+
+// Every byte becomes 0.
+pub fn clear_bytes(bytes: &mut [u8])
+    ensures { λ _. ⌜ Cleared (length (now (bytes .entry))) (now (bytes .exit)) ⌝ }
+{
+    let mut i = 0;
+    while i < bytes.len() {
+        bytes[i] = 0;
+        i += 1;
+    }
+}
+
+// Every number becomes 0.
+pub fn clear_numbers(numbers: &mut [u16])
+    ensures { λ _. ⌜ Cleared (length (now (numbers .entry))) (now (numbers .exit)) ⌝ }
+{
+    let mut i = 0;
+    while i < numbers.len() {
+        numbers[i] = 0;
+        i += 1;
+    }
+}
+
+// The shorter of two lengths.
+pub fn shorter(one: usize, other: usize) -> usize
+    ensures { λ r. ⌜ r ≡ min one other ⌝ }
+{
+    if one < other {
+        return one;
+    }
+    other
+}
+
+// The lower of two numbers of refusals, of which 0 is none.
+pub fn lower_number(a: u8, b: u8) -> u8
+    ensures { λ r. ⌜ r ≡ lowerNumber a b ⌝ }
+{
+    if a == 0 {
+        return b;
+    }
+    if b == 0 {
+        return a;
+    }
+    if a < b {
+        return a;
+    }
+    b
+}
