@@ -1,6 +1,6 @@
 -- Laws on lists that are filled from the front.
-use Prim.Native.Nat.{ℕ, zero, suc, _+_, _≤_, _<_}
-use mathlib.Core.Path.{_≡_, refl, sym, _∙_}
+use Prim.Native.Nat.{ℕ, _+_, _<_}
+use mathlib.Core.Path.{_≡_, refl, _∙_}
 use mathlib.Core.List.{List}
 use native.Mathlib.Omega.{arith}
 use native.Mathlib.Nat.{not-suc-le-zero}
@@ -11,13 +11,17 @@ use lib.Seq.{getD-set-same, getD-set-other}
 use Rattle.memory.specs.Meaning.Slices.{Zero}
 use Rattle.memory.specs.Working.Filling.{Filled}
 
+-- a list of n z's holds z everywhere
+pub all-same : {A : Type 0} (z : A) (n k : ℕ) → getD (replicate n z) k z ≡ z
+all-same z n k = go (decLt k n)
+  where
+    go : Dec (k < n) → getD (replicate n z) k z ≡ z
+    go (yes h) = getD-replicate n k z z h
+    go (no h) = List·getD-eq-default (replicate n z) z (rw length-replicate (omega arith))
+
 -- a list of n z's is filled up to 0, and a store of f i at i carries it to i + 1
 pub filled-none : {A : Type 0} (f : ℕ → A) (z : A) (n : ℕ) → Filled f z n 0 (replicate n z)
-filled-none f z n = record { size = length-replicate n z; front = λ k h. absurd (not-suc-le-zero h); rest = λ k h. go k (decLt k n) }
-  where
-    go : (k : ℕ) → Dec (k < n) → getD (replicate n z) k z ≡ z
-    go k (yes h) = getD-replicate n k z z h
-    go k (no h) = List·getD-eq-default (replicate n z) z (rw length-replicate (omega arith))
+filled-none f z n = record { size = length-replicate n z; front = λ k h. absurd (not-suc-le-zero h); rest = λ k h. all-same z n k }
 
 pub filled-zero : (f : ℕ → ℕ) (l : List ℕ) → Zero l → Filled f 0 (length l) 0 l
 filled-zero f l z = record { size = refl; front = λ k h. absurd (not-suc-le-zero h); rest = z }

@@ -1,12 +1,11 @@
 -- Laws on the lowest number that applies, and on replies.
 use Prim.Native.Nat.{ℕ, zero, suc, _+_, _<_, _≤_, min}
-use mathlib.Core.Path.{_≡_, refl, sym, subst}
+use mathlib.Core.Path.{_≡_, refl, subst}
 use mathlib.Core.Logic.{_⊎_, inl, inr, ⊎-elim}
 use native.Mathlib.Omega.{arith}
-use native.Mathlib.Nat.{not-suc-le-zero}
 use native.Mathlib.Decide.{ℕ-discrete}
 use borrow.Author.Count.{below-more}
-use Rattle.numbers.proofs.Order.{tri, le-of-not-lt}
+use Rattle.numbers.proofs.Order.{tri}
 use Rattle.memory.specs.Meaning.Refusals.{Free, Lowest, LowestOrNone, lowerNumber, Reply, answer, refusal, Keeps}
 
 -- no number below k applies

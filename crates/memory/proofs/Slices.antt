@@ -1,13 +1,13 @@
 -- Laws on lists of zeros.
-use Prim.Native.Nat.{ℕ, zero, suc, _+_, _<_, _≤_}
-use mathlib.Core.Path.{_≡_, refl, sym, _∙_}
+use Prim.Native.Nat.{ℕ, zero, _+_, _<_}
+use mathlib.Core.Path.{_≡_, sym, _∙_}
 use mathlib.Core.List.{List}
 use native.Mathlib.Omega.{arith}
 use native.Mathlib.Decide.{decLt}
 use borrow.Author.Count.{below-more}
 use lib.ListN.{length, getD, set, length-set, List·getD-eq-default}
 use lib.Seq.{getD-set-same, getD-set-other, ext-getD}
-use Rattle.memory.specs.Meaning.Slices.{Zero, ZeroFrom}
+use Rattle.memory.specs.Meaning.Slices.{Zero}
 
 -- zero below the end is zero everywhere
 pub zero-of-below : (l : List ℕ) → ((k : ℕ) → k < length l → getD l k 0 ≡ 0) → Zero l

@@ -1,16 +1,12 @@
 -- Bits and the numbers that they spell.
-use Prim.Native.Nat.{ℕ, zero, suc, _+_, _-_, _*_, _/_, _%_, _^_, _<_, _≤_}
-use mathlib.Core.Path.{_≡_, refl, sym, _∙_, ap, subst}
-use mathlib.Core.List.{List, []}
+use Prim.Native.Nat.{ℕ, zero, suc, _+_, _-_, _*_, _/_, _%_, _^_, _<_}
+use mathlib.Core.Path.{_≡_, refl, sym}
 use native.Mathlib.Omega.{arith}
-use native.Mathlib.Numerals.{add-one}
-use native.Mathlib.Nat.{mod-lt, div-div-eq-div-mul, mul-comm, pow-suc, mod-eq-of-lt, add-zero, div-one, pow-zero}
+use native.Mathlib.Nat.{div-div-eq-div-mul, mul-comm, pow-suc}
 use native.Mathlib.Decide.{decLt}
 use lib.Arith.{mod-mul}
 use lib.Pow.{pow-pos, pow-mono}
 use lib.Dec.{lit<}
-use lib.ListN.{length, getD}
-use lib.Seq.{ext-getD}
 use Rattle.numbers.specs.Meaning.Bits.{bitOf, horner}
 
 pub horner-cong : (f g : ℕ → ℕ) (w : ℕ) → ((j : ℕ) → j < w → f j ≡ g j) → horner f w ≡ horner g w

@@ -1,6 +1,5 @@
 -- `lower_number`: by the cases that the code tests.
 use borrow.Author.Needs.{needs}
-use native.Mathlib.Omega.{arith}
 use Rattle.memory.proofs.Refusals.{lower-one, lower-first, lower-second}
 use Rattle.memory.proofs.lower_number.Statement.{statement}
 use Rattle.memory.proofs.lower_number.Tie as tie

@@ -1,0 +1,78 @@
+-- The value of every net of a design, and one clock.
+--   cellBase d, netsOf d      the first cell net, and how many nets there are
+--   gateAt d i                the gate of cell i
+--   source d s v n            the value of net n, which no cell drives
+--   settled d s v r n         the value of net n after r rounds in which every cell takes what it reads
+--   value d s v n             the value of net n in state s under vector v
+--   Satisfies d s v f         the assignment f gives every net what its source or its cell says
+--   nextState, outputs        one clock
+--   statesOf d, vectorsOf d   how many states and vectors there are
+-- `value` computes and is believed; for a design without loops it is the one assignment with `Satisfies` (proofs/Values).
+use Prim.Native.Nat.{ℕ, zero, suc, _+_, _-_, _^_, _<_}
+use mathlib.Core.Path.{_≡_}
+use mathlib.Core.Bool.{cond}
+use lib.Dec.{ltb}
+use lib.ListN.{getD}
+use Rattle.numbers.specs.Meaning.Bits.{bitOf, horner}
+use Rattle.netlist.specs.declared.Gate.{Gate}
+use Rattle.netlist.specs.declared.Design.{Design}
+use Rattle.netlist.specs.Meaning.Gates.{kindOf, firstOf, secondOf, truth, blankCell}
+
+-- "Net 0 is constant 0 and net 1 constant 1. Then come I input nets, L flip-flop nets and G cell nets, in order"
+abbrev pub cellBase : Design → ℕ
+cellBase d = 2 + d .inputs + d .latches
+
+abbrev pub netsOf : Design → ℕ
+netsOf d = cellBase d + d .count
+
+abbrev pub gateAt : Design → ℕ → Gate
+gateAt d i = getD (d .cells) i blankCell .gate
+
+abbrev pub gateValue : Gate → (ℕ → ℕ) → ℕ
+gateValue g f = truth (kindOf g) (f (firstOf g)) (f (secondOf g))
+
+-- "An input vector is a number of I bits with input 0 most significant; states (flip-flop 0 first) .. likewise"
+abbrev pub source : Design → ℕ → ℕ → ℕ → ℕ
+source d s v n =
+    cond (ltb n 2) n
+    (cond (ltb n (2 + d .inputs)) (bitOf (d .inputs) v (n - 2))
+    (bitOf (d .latches) s (n - (2 + d .inputs))))
+
+-- "a cell drives its own net": one round gives each cell's net what the cell makes of the values f
+abbrev pub settle : Design → (ℕ → ℕ) → ℕ → ℕ
+settle d f n = cond (ltb n (cellBase d)) (f n) (cond (ltb n (netsOf d)) (gateValue (gateAt d (n - cellBase d)) f) 0)
+
+-- rounds that start with every cell's net at 0
+unfoldable pub settled : Design → ℕ → ℕ → ℕ → ℕ → ℕ
+settled d s v zero n = cond (ltb n (cellBase d)) (source d s v n) 0
+settled d s v (suc r) n = settle d (settled d s v r) n
+
+-- no cell of a design without loops lies deeper than there are cells
+abbrev pub value : Design → ℕ → ℕ → ℕ → ℕ
+value d s v = settled d s v (d .count)
+
+pub record Satisfies (d : Design) (s v : ℕ) (f : ℕ → ℕ) : Type 0 where
+  pub sources : (n : ℕ) → n < cellBase d → f n ≡ source d s v n
+  pub cells : (i : ℕ) → i < d .count → f (cellBase d + i) ≡ gateValue (gateAt d i) f
+
+-- "One step from a state under a vector gives outputs from the values before the clock, and the next state"
+abbrev pub nextBit : Design → ℕ → ℕ → ℕ → ℕ
+nextBit d s v k = value d s v (getD (d .«data») k 0)
+
+abbrev pub outputBit : Design → ℕ → ℕ → ℕ → ℕ
+outputBit d s v k = value d s v (getD (d .shown) k 0)
+
+-- "states (flip-flop 0 first) and outputs (output 0 first) likewise"
+abbrev pub nextState : Design → ℕ → ℕ → ℕ
+nextState d s v = horner (nextBit d s v) (d .latches)
+
+abbrev pub outputs : Design → ℕ → ℕ → ℕ
+outputs d s v = horner (outputBit d s v) (d .outputs)
+
+-- "Its power-up states are all state numbers below 2 to the L"
+abbrev pub statesOf : Design → ℕ
+statesOf d = 2 ^ d .latches
+
+-- "V is 2 to the I"
+abbrev pub vectorsOf : Design → ℕ
+vectorsOf d = 2 ^ d .inputs

@@ -1,0 +1,152 @@
+// Netlists: gates, cells and designs, with the limits of the image format.
+mod faults;
+pub mod order;
+
+ghost use mathlib.Core.Path.{_≡_};
+ghost use lib.ListN.{getD};
+ghost use Rattle.memory.specs.Meaning.Refusals.{LowestOrNone};
+ghost use Rattle.netlist.specs.Meaning.Gates.{kindOf, firstOf, secondOf};
+ghost use Rattle.netlist.specs.Meaning.Faults.{DesignFault};
+ghost use Rattle.netlist.specs.Meaning.Limits.{mostInputs, mostLatches, mostOutputs, mostCells, mostBytes};
+
+// The image format: its limits and the widths of its fields, named once.
+pub struct Image {}
+
+impl Image {
+    pub const MOST_INPUTS: usize = 6;
+
+    pub const MOST_LATCHES: usize = 7;
+
+    pub const MOST_OUTPUTS: usize = 8;
+
+    pub const MOST_CELLS: usize = 256;
+
+    pub const HEADER_BITS: usize = 4 + 4 + 4 + 4 + 9;
+
+    pub const KIND_BITS: usize = 3;
+
+    pub const NET_BITS: usize = 9;
+
+    pub const CELL_BITS: usize = Image::KIND_BITS + Image::NET_BITS + Image::NET_BITS;
+
+    pub const MOST_BYTES: usize = (Image::HEADER_BITS
+        + Image::CELL_BITS * Image::MOST_CELLS
+        + Image::NET_BITS * (Image::MOST_LATCHES + Image::MOST_OUTPUTS)
+        + 7)
+        / 8;
+
+    pub const MOST_NETS: usize = 2 + Image::MOST_INPUTS + Image::MOST_LATCHES + Image::MOST_CELLS;
+
+    // The limits as numbers, so that what is believed of the format and the constants are held to each other.
+    pub fn limits() -> Limits
+        ensures { λ r. ⌜ (r .inputs ≡ mostInputs) × (r .latches ≡ mostLatches) × (r .outputs ≡ mostOutputs) × (r .cells ≡ mostCells) × (r .bytes ≡ mostBytes) ⌝ }
+    {
+        Limits {
+            inputs: Image::MOST_INPUTS,
+            latches: Image::MOST_LATCHES,
+            outputs: Image::MOST_OUTPUTS,
+            cells: Image::MOST_CELLS,
+            bytes: Image::MOST_BYTES,
+        }
+    }
+}
+
+pub struct Limits {
+    pub inputs: usize,
+    pub latches: usize,
+    pub outputs: usize,
+    pub cells: usize,
+    pub bytes: usize,
+}
+
+// A gate with exactly the nets that its kind reads.
+pub enum Gate {
+    Buf(u16),
+    Not(u16),
+    And(u16, u16),
+    Or(u16, u16),
+    Xor(u16, u16),
+    Nand(u16, u16),
+    Nor(u16, u16),
+    Xnor(u16, u16),
+}
+
+pub struct Cell {
+    pub gate: Gate,
+}
+
+// Nets 0 and 1 are the constants; then come the inputs, the flip-flops and the cells in order. A flip-flop takes the value of its
+// data net at the clock, and an output shows the value of its net.
+pub struct Design {
+    pub inputs: u8,
+    pub latches: u8,
+    pub outputs: u8,
+    pub count: u16,
+    pub cells: [Cell; Image::MOST_CELLS],
+    pub data: [u16; Image::MOST_LATCHES],
+    pub shown: [u16; Image::MOST_OUTPUTS],
+}
+
+// The lowest of 3, 5 and 9 that applies to a design, or 0.
+pub fn fault_of(d: Design) -> u8
+    ensures { λ r. ⌜ LowestOrNone (DesignFault d) r ⌝ }
+{
+    let plan = order::levelize(d);
+    plan.number
+}
+
+// The net number at a place of a list, 0 past its end.
+pub fn net_at(nets: &[u16], k: usize) -> usize
+    ensures { λ r. ⌜ r ≡ getD (now (nets .entry)) k 0 ⌝ }
+{
+    if k < nets.len() {
+        return nets[k] as usize;
+    }
+    0
+}
+
+pub fn kind_of(g: Gate) -> u16
+    ensures { λ r. ⌜ r ≡ kindOf g ⌝ }
+{
+    match g {
+        Gate::Buf(_) => 0,
+        Gate::Not(_) => 1,
+        Gate::And(_, _) => 2,
+        Gate::Or(_, _) => 3,
+        Gate::Xor(_, _) => 4,
+        Gate::Nand(_, _) => 5,
+        Gate::Nor(_, _) => 6,
+        Gate::Xnor(_, _) => 7,
+    }
+}
+
+pub fn first_of(g: Gate) -> u16
+    ensures { λ r. ⌜ r ≡ firstOf g ⌝ }
+{
+    match g {
+        Gate::Buf(a) => a,
+        Gate::Not(a) => a,
+        Gate::And(a, _) => a,
+        Gate::Or(a, _) => a,
+        Gate::Xor(a, _) => a,
+        Gate::Nand(a, _) => a,
+        Gate::Nor(a, _) => a,
+        Gate::Xnor(a, _) => a,
+    }
+}
+
+// The second net, 0 of a gate that reads one.
+pub fn second_of(g: Gate) -> u16
+    ensures { λ r. ⌜ r ≡ secondOf g ⌝ }
+{
+    match g {
+        Gate::Buf(_) => 0,
+        Gate::Not(_) => 0,
+        Gate::And(_, b) => b,
+        Gate::Or(_, b) => b,
+        Gate::Xor(_, b) => b,
+        Gate::Nand(_, b) => b,
+        Gate::Nor(_, b) => b,
+        Gate::Xnor(_, b) => b,
+    }
+}
