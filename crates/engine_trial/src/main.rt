@@ -261,25 +261,46 @@ fn try_tables(
     try_rows(old_next, old_out, new_next, new_out, sizes);
 }
 
-// P with Q under sizes that may be out of range.
+// Both maps of P and Q, under sizes that may be out of range and with slices that may be too short.
+fn try_lent(sizes: Sizes, depth: &mut [u16], reach: &mut [u16], mark: &mut [u8]) {
+    let p_next = [0u8, 1, 0, 1];
+    let p_out = [0u8, 0, 1, 1];
+    let q_next = [1u8, 0, 1, 0];
+    let q_out = [1u8, 1, 0, 0];
+    try_alike(&p_next, &p_out, &q_next, &q_out, sizes, depth, reach, mark);
+    try_alignable(&p_next, &p_out, &q_next, &q_out, sizes, depth, reach, mark);
+}
+
 fn try_sizes(old: usize, new: usize, vectors: usize) {
-    let sizes = Sizes { old, new, vectors };
     let mut depth = [9u16; 4];
     let mut reach = [9u16; 4];
     let mut mark = [7u8; 4];
-    try_alike(
-        b"\x00\x01\x00\x01",
-        b"\x00\x00\x01\x01",
-        b"\x01\x00\x01\x00",
-        b"\x01\x01\x00\x00",
-        sizes,
+    try_lent(
+        Sizes { old, new, vectors },
         &mut depth,
         &mut reach,
         &mut mark,
     );
 }
 
-// P with Q, with tables of other lengths or contents in their places.
+fn try_short_lent() {
+    let sizes = Sizes {
+        old: 2,
+        new: 2,
+        vectors: 2,
+    };
+    let mut three = [9u16; 3];
+    let mut four = [9u16; 4];
+    let mut five = [9u16; 5];
+    let mut short = [7u8; 3];
+    let mut mark = [7u8; 4];
+    try_lent(sizes, &mut three, &mut four, &mut mark);
+    try_lent(sizes, &mut four, &mut three, &mut mark);
+    try_lent(sizes, &mut four, &mut five, &mut short);
+    try_lent(sizes, &mut four, &mut five, &mut mark);
+}
+
+// The map of two tables with two states and two vectors.
 fn try_slices(old_next: &[u8], old_out: &[u8], new_next: &[u8], new_out: &[u8]) {
     let sizes = Sizes {
         old: 2,
@@ -301,103 +322,34 @@ fn try_slices(old_next: &[u8], old_out: &[u8], new_next: &[u8], new_out: &[u8]) 
     );
 }
 
-fn try_short_tables(p_next: &[u8], p_out: &[u8], q_next: &[u8], q_out: &[u8]) {
-    io::write_all(1, b"TABLES ONE SHORT\n");
+// P and Q, with a table one entry short.
+fn try_short_tables() {
+    let p_next = [0u8, 1, 0, 1];
+    let p_out = [0u8, 0, 1, 1];
+    let q_next = [1u8, 0, 1, 0];
+    let q_out = [1u8, 1, 0, 0];
     let short = [0u8; 3];
-    try_slices(&short, p_out, q_next, q_out);
-    try_slices(p_next, &short, q_next, q_out);
-    try_slices(p_next, p_out, &short, q_out);
-    try_slices(p_next, p_out, q_next, &short);
-    io::write_all(1, b"NEXT STATE 2 INSIDE, AND BEYOND\n");
+    try_slices(&short, &p_out, &q_next, &q_out);
+    try_slices(&p_next, &short, &q_next, &q_out);
+    try_slices(&p_next, &p_out, &short, &q_out);
+    try_slices(&p_next, &p_out, &q_next, &short);
+}
+
+// P and Q, with a next state that is no state, in use and beyond it.
+fn try_next_states() {
+    let p_next = [0u8, 1, 0, 1];
+    let p_out = [0u8, 0, 1, 1];
+    let q_next = [1u8, 0, 1, 0];
+    let q_out = [1u8, 1, 0, 0];
     let inside = [0u8, 1, 0, 2];
     let beyond = [0u8, 1, 0, 1, 2];
-    try_slices(&inside, p_out, q_next, q_out);
-    try_slices(p_next, p_out, &inside, q_out);
-    try_slices(&beyond, p_out, q_next, q_out);
+    try_slices(&inside, &p_out, &q_next, &q_out);
+    try_slices(&p_next, &p_out, &inside, &q_out);
+    try_slices(&beyond, &p_out, &q_next, &q_out);
 }
 
-fn try_short_lent(p_next: &[u8], p_out: &[u8], q_next: &[u8], q_out: &[u8]) {
-    io::write_all(1, b"LENT SLICES ONE SHORT\n");
-    let sizes = Sizes {
-        old: 2,
-        new: 2,
-        vectors: 2,
-    };
-    let mut four = [9u16; 4];
-    let mut again = [9u16; 4];
-    let mut three = [9u16; 3];
-    let mut mark = [7u8; 4];
-    let mut short = [7u8; 3];
-    try_alike(
-        p_next,
-        p_out,
-        q_next,
-        q_out,
-        sizes,
-        &mut three,
-        &mut four,
-        &mut mark,
-    );
-    try_alike(
-        p_next,
-        p_out,
-        q_next,
-        q_out,
-        sizes,
-        &mut four,
-        &mut three,
-        &mut mark,
-    );
-    try_alike(
-        p_next,
-        p_out,
-        q_next,
-        q_out,
-        sizes,
-        &mut four,
-        &mut again,
-        &mut short,
-    );
-    try_alignable(
-        p_next,
-        p_out,
-        q_next,
-        q_out,
-        sizes,
-        &mut three,
-        &mut four,
-        &mut mark,
-    );
-    try_alignable(
-        p_next,
-        p_out,
-        q_next,
-        q_out,
-        sizes,
-        &mut four,
-        &mut three,
-        &mut mark,
-    );
-    try_alignable(
-        p_next,
-        p_out,
-        q_next,
-        q_out,
-        sizes,
-        &mut four,
-        &mut again,
-        &mut short,
-    );
-}
-
-// A list slice of no, one and two bytes, and states that are not below their counts.
-fn try_lists(next: &[u8], out: &[u8]) {
-    io::write_all(1, b"LIST SLICES THAT JUST FIT, AND ONE SHORT\n");
-    let sizes = Sizes {
-        old: 3,
-        new: 3,
-        vectors: 5,
-    };
+// List slices of no, one and two bytes.
+fn try_lists(next: &[u8], out: &[u8], sizes: Sizes) {
     let pair = Pair { old: 0, new: 1 };
     let mut none = [5u8; 0];
     let mut one = [5u8; 1];
@@ -424,12 +376,10 @@ fn try_lists(next: &[u8], out: &[u8]) {
         Pair { old: 1, new: 1 },
         &mut none,
     );
-    io::write_all(1, b"STATES AT THEIR COUNTS\n");
-    try_pair(next, out, next, out, sizes, Pair { old: 3, new: 0 });
-    try_pair(next, out, next, out, sizes, Pair { old: 0, new: 3 });
 }
 
-fn main() {
+// The tables of the bench sheet.
+fn try_sheet() {
     let two = Sizes {
         old: 2,
         new: 2,
@@ -445,10 +395,10 @@ fn main() {
     try_tables(b"P P\n", &p_next, &p_out, &p_next, &p_out, two);
     try_tables(b"P M\n", &p_next, &p_out, &p_next, &m_out, two);
     try_tables(b"H H\n", &h_next, &p_out, &h_next, &p_out, two);
-    let t_next = [1u8, 0, 1, 0, 0, 2, 1, 0, 2, 1, 0, 2, 2, 2, 2];
-    let t_out = [0u8, 0, 0, 0, 0, 0, 0, 0, 0, 0, 0, 0, 0, 0, 7];
-    let u_next = [0u8, 0, 0, 1, 0, 1, 1, 1, 1, 1];
-    let u_out = [0u8, 0, 0, 0, 0, 0, 0, 0, 0, 7];
+}
+
+// Three states, or three and two, and five vectors.
+fn try_five_vectors() {
     let three = Sizes {
         old: 3,
         new: 3,
@@ -459,8 +409,36 @@ fn main() {
         new: 2,
         vectors: 5,
     };
+    let t_next = [1u8, 0, 1, 0, 0, 2, 1, 0, 2, 1, 0, 2, 2, 2, 2];
+    let t_out = [0u8, 0, 0, 0, 0, 0, 0, 0, 0, 0, 0, 0, 0, 0, 7];
+    let u_next = [0u8, 0, 0, 1, 0, 1, 1, 1, 1, 1];
+    let u_out = [0u8, 0, 0, 0, 0, 0, 0, 0, 0, 7];
     try_tables(b"T T\n", &t_next, &t_out, &t_next, &t_out, three);
     try_tables(b"T U\n", &t_next, &t_out, &u_next, &u_out, unlike);
+    io::write_all(1, b"LIST SLICES THAT JUST FIT, AND ONE SHORT\n");
+    try_lists(&t_next, &t_out, three);
+    io::write_all(1, b"STATES AT THEIR COUNTS\n");
+    try_pair(
+        &t_next,
+        &t_out,
+        &t_next,
+        &t_out,
+        three,
+        Pair { old: 3, new: 0 },
+    );
+    try_pair(
+        &t_next,
+        &t_out,
+        &t_next,
+        &t_out,
+        three,
+        Pair { old: 0, new: 3 },
+    );
+}
+
+fn main() {
+    try_sheet();
+    try_five_vectors();
     io::write_all(1, b"SIZES OUT OF RANGE\n");
     try_sizes(0, 2, 2);
     try_sizes(129, 2, 2);
@@ -468,7 +446,10 @@ fn main() {
     try_sizes(2, 129, 2);
     try_sizes(2, 2, 0);
     try_sizes(2, 2, 65);
-    try_short_tables(&p_next, &p_out, &q_next, &q_out);
-    try_short_lent(&p_next, &p_out, &q_next, &q_out);
-    try_lists(&t_next, &t_out);
+    io::write_all(1, b"LENT SLICES ONE SHORT, AND LONG ENOUGH\n");
+    try_short_lent();
+    io::write_all(1, b"TABLES ONE SHORT\n");
+    try_short_tables();
+    io::write_all(1, b"NEXT STATE 2 INSIDE, AND BEYOND\n");
+    try_next_states();
 }
