@@ -1,6 +1,6 @@
 // The maps of alike and of alignable pairs, and the trace or list of one pair. Every call first takes the lengths of the slices that it
 // is lent and looks for what turns it away, then clears them, and leaves its scratch slices all zero.
-ghost use Prim.Native.Nat.{_≤_};
+ghost use Prim.Native.Nat.{_≤_, min};
 ghost use lib.ListN.{length};
 ghost use Rattle.memory.specs.Meaning.Refusals.{Free, LowestOrNone};
 ghost use Rattle.memory.specs.Meaning.Slices.{Zero, Cleared};
@@ -40,9 +40,16 @@ pub fn map_alike(
 ) -> MappedAlike
     ensures { λ r. ⌜ MapsAlike (tables sizes (now («old_next» .entry)) (now («old_out» .entry)) (now («new_next» .entry)) (now («new_out» .entry))) (lent (length (now (depth .entry))) (length (now (reach .entry))) (length (now (mark .entry)))) (left (now (depth .exit)) (now (reach .exit)) (now (mark .exit))) r ⌝ }
 {
-    let room = memory::shorter(mark.len(), memory::shorter(depth.len(), reach.len()));
-    let n = seek::call_fault(old_next, old_out, new_next, new_out, sizes, room);
-    clear_lent(depth, reach, mark);
+    let n = open_map(
+        old_next,
+        old_out,
+        new_next,
+        new_out,
+        sizes,
+        depth,
+        reach,
+        mark,
+    );
     if n != 0 {
         return MappedAlike::Refused(n);
     }
@@ -71,9 +78,16 @@ pub fn map_alignable(
 ) -> MappedAlignable
     ensures { λ r. ⌜ MapsAlignable (tables sizes (now («old_next» .entry)) (now («old_out» .entry)) (now («new_next» .entry)) (now («new_out» .entry))) (lent (length (now (depth .entry))) (length (now (reach .entry))) (length (now (mark .entry)))) (left (now (depth .exit)) (now (reach .exit)) (now (mark .exit))) r ⌝ }
 {
-    let room = memory::shorter(mark.len(), memory::shorter(depth.len(), reach.len()));
-    let n = seek::call_fault(old_next, old_out, new_next, new_out, sizes, room);
-    clear_lent(depth, reach, mark);
+    let n = open_map(
+        old_next,
+        old_out,
+        new_next,
+        new_out,
+        sizes,
+        depth,
+        reach,
+        mark,
+    );
     if n != 0 {
         return MappedAlignable::Refused(n);
     }
@@ -103,9 +117,17 @@ pub fn trace_of(
 ) -> Found
     ensures { λ r. ⌜ FindsTrace (tables sizes (now («old_next» .entry)) (now («old_out» .entry)) (now («new_next» .entry)) (now («new_out» .entry))) (lent (length (now (depth .entry))) (length (now (reach .entry))) (length (now (list .entry)))) pair (left (now (depth .exit)) (now (reach .exit)) (now (list .exit))) r ⌝ }
 {
-    let room = memory::shorter(depth.len(), reach.len());
-    let n = pair_fault(old_next, old_out, new_next, new_out, sizes, pair, room);
-    clear_lent(depth, reach, list);
+    let n = open_pair(
+        old_next,
+        old_out,
+        new_next,
+        new_out,
+        sizes,
+        pair,
+        depth,
+        reach,
+        list,
+    );
     if n != 0 {
         return Found::Refused(n);
     }
@@ -135,9 +157,17 @@ pub fn list_of(
 ) -> Found
     ensures { λ r. ⌜ FindsList (tables sizes (now («old_next» .entry)) (now («old_out» .entry)) (now («new_next» .entry)) (now («new_out» .entry))) (lent (length (now (depth .entry))) (length (now (reach .entry))) (length (now (list .entry)))) pair (left (now (depth .exit)) (now (reach .exit)) (now (list .exit))) r ⌝ }
 {
-    let room = memory::shorter(depth.len(), reach.len());
-    let n = pair_fault(old_next, old_out, new_next, new_out, sizes, pair, room);
-    clear_lent(depth, reach, list);
+    let n = open_pair(
+        old_next,
+        old_out,
+        new_next,
+        new_out,
+        sizes,
+        pair,
+        depth,
+        reach,
+        list,
+    );
     if n != 0 {
         return Found::Refused(n);
     }
@@ -152,6 +182,47 @@ pub fn list_of(
         reach,
         list,
     )
+}
+
+// Begins a map: the lowest number that turns it away, or 0, and every lent slice cleared.
+fn open_map(
+    old_next: &[u8],
+    old_out: &[u8],
+    new_next: &[u8],
+    new_out: &[u8],
+    sizes: Sizes,
+    depth: &mut [u16],
+    reach: &mut [u16],
+    mark: &mut [u8],
+) -> u8
+    ensures { λ r. ⌜ LowestOrNone (Fault (tables sizes (now («old_next» .entry)) (now («old_out» .entry)) (now («new_next» .entry)) (now («new_out» .entry))) (roomOf (lent (length (now (depth .entry))) (length (now (reach .entry))) (length (now (mark .entry)))))) r ⌝ }
+    ensures { λ r. ⌜ Emptied (lent (length (now (depth .entry))) (length (now (reach .entry))) (length (now (mark .entry)))) (left (now (depth .exit)) (now (reach .exit)) (now (mark .exit))) ⌝ }
+{
+    let room = memory::shorter(mark.len(), memory::shorter(depth.len(), reach.len()));
+    let n = seek::call_fault(old_next, old_out, new_next, new_out, sizes, room);
+    clear_lent(depth, reach, mark);
+    n
+}
+
+// Begins a call for a pair: the lowest of 11 to 14 that turns it away, or 0, and every lent slice cleared.
+fn open_pair(
+    old_next: &[u8],
+    old_out: &[u8],
+    new_next: &[u8],
+    new_out: &[u8],
+    sizes: Sizes,
+    pair: Pair,
+    depth: &mut [u16],
+    reach: &mut [u16],
+    list: &mut [u8],
+) -> u8
+    ensures { λ r. ⌜ LowestOrNone (StateFault (tables sizes (now («old_next» .entry)) (now («old_out» .entry)) (now («new_next» .entry)) (now («new_out» .entry))) (min (length (now (depth .entry))) (length (now (reach .entry)))) pair) r ⌝ }
+    ensures { λ r. ⌜ Emptied (lent (length (now (depth .entry))) (length (now (reach .entry))) (length (now (list .entry)))) (left (now (depth .exit)) (now (reach .exit)) (now (list .exit))) ⌝ }
+{
+    let room = memory::shorter(depth.len(), reach.len());
+    let n = pair_fault(old_next, old_out, new_next, new_out, sizes, pair, room);
+    clear_lent(depth, reach, list);
+    n
 }
 
 // Every lent slice becomes 0 throughout.
