@@ -1,8 +1,7 @@
 -- The first list from a pair, taken vector by vector from a map that is right.
-use mathlib.Core.Path.{_≡_, refl, sym, ap, _∙_, subst}
-use mathlib.Core.Logic.{_⊎_, inl, inr, ⊎-elim}
+use mathlib.Core.Path.{_≡_, refl, ap, _∙_}
 use mathlib.Core.List.{List, [], _∷_, _++_, append-assoc, append-nil}
-use Prim.Native.Nat.{ℕ, zero, suc, _<_, _≤_, _+_, _-_, _*_}
+use Prim.Native.Nat.{ℕ, zero, suc, _<_, _≤_, _+_, _-_}
 use native.Mathlib.Omega.{arith}
 use native.Mathlib.Numerals.{add-one}
 use native.Mathlib.Decide.{decLt}
@@ -12,7 +11,7 @@ use Rattle.machine.specs.declared.Pair.{Pair}
 use Rattle.machine.specs.declared.Sizes.{Sizes}
 use Rattle.machine.specs.Meaning.Lists.{First, run, Leads}
 use Rattle.machine.specs.Meaning.Tables.{at, In, Ok}
-use Rattle.machine.specs.Working.Maps.{Dist, Complete, LowestTo}
+use Rattle.machine.specs.Working.Maps.{Dist, LowestTo}
 use Rattle.machine.proofs.Lists.{run-append}
 use Rattle.machine.proofs.Greedy.{goes-on, first-here, first-more}
 use Rattle.search.specs.Working.{move, Nexts, Ones, Ready, LowestBelow, To, Descent, Descended}

@@ -5,7 +5,7 @@ use native.Mathlib.Omega.{arith}
 use native.Mathlib.Decide.{decLt}
 use lib.ListN.{getD}
 use Rattle.numbers.proofs.Order.{not-lt, le-of-not-lt}
-use Rattle.memory.specs.Meaning.Refusals.{Free, Lowest, LowestOrNone}
+use Rattle.memory.specs.Meaning.Refusals.{Free, LowestOrNone}
 use Rattle.memory.proofs.Refusals.{some-number, no-number}
 use Rattle.machine.specs.declared.Sizes.{Sizes}
 use Rattle.machine.specs.Meaning.Tables.{Tables, pairs}

@@ -1,9 +1,8 @@
 -- `differ`: the entries passed say where some vector shows different outputs.
-use Prim.Native.Nat.{ℕ, _≤_, _<_, _-_}
-use mathlib.Core.Path.{_≡_, refl}
+use Prim.Native.Nat.{_≤_, _-_}
+use mathlib.Core.Path.{refl}
 use mathlib.Core.Logic.{⊎-elim}
 use native.Mathlib.Omega.{arith}
-use borrow.Author.Needs.{needs}
 use Rattle.machine.specs.Meaning.Tables.{pairs, holds, fails}
 use Rattle.search.proofs.Flags.{flagged-start, flagged-more, flagged-end}
 use Rattle.search.proofs.Cells.{differs-some, differs-none}

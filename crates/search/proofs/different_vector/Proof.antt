@@ -1,6 +1,5 @@
 -- `different_vector`: a scan over the vectors.
-use Prim.Native.Nat.{ℕ, _≤_, _<_, _-_}
-use native.Mathlib.Omega.{arith}
+use Prim.Native.Nat.{_-_}
 use borrow.Author.Needs.{needs}
 use Rattle.search.specs.Working.{NoneBelow, Different}
 use Rattle.search.proofs.Cells.{scan-start, scan-more, scan-found, scan-none}

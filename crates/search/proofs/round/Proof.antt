@@ -1,9 +1,7 @@
 -- `round`: a sweep over the numbers of the pairs.
-use Prim.Native.Nat.{ℕ, _≤_, _<_, _-_}
-use mathlib.Core.Path.{_≡_, refl}
+use Prim.Native.Nat.{_<_, _-_}
 use mathlib.Core.Logic.{⊎-elim}
 use native.Mathlib.Omega.{arith}
-use borrow.Author.Needs.{needs}
 use Rattle.machine.specs.Meaning.Tables.{pairs}
 use Rattle.search.proofs.Turns.{Turn, turn-start, turn-new, turn-old, turn-end}
 use Rattle.search.proofs.round.Statement.{statement}

@@ -1,8 +1,7 @@
 -- `search`: rounds till one adds nothing, while entries of 0 get fewer.
-use Prim.Native.Nat.{ℕ, _≤_, _<_, _-_}
-use mathlib.Core.Path.{_≡_, refl, _∙_}
+use Prim.Native.Nat.{_-_}
+use mathlib.Core.Path.{_∙_}
 use native.Mathlib.Omega.{arith}
-use borrow.Author.Needs.{needs}
 use Rattle.machine.specs.Meaning.Tables.{pairs}
 use Rattle.numbers.specs.Meaning.Count.{countOf}
 use Rattle.search.proofs.Cells.{few-pairs}

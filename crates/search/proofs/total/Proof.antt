@@ -2,7 +2,6 @@
 use mathlib.Core.Path.{refl}
 use native.Mathlib.Omega.{arith}
 use Rattle.search.proofs.Cells.{few-pairs}
-use borrow.Author.Needs.{needs}
 use Rattle.search.proofs.total.Statement.{statement}
 use Rattle.search.proofs.total.Tie as tie
 

@@ -1,6 +1,4 @@
 -- `call_fault`: the lowest number, in the order of the tests.
-use native.Mathlib.Omega.{arith}
-use mathlib.Core.Path.{_≡_, refl, sym, ap, _∙_, subst}
 use Rattle.seek.specs.Meaning.Faults.{Fault}
 use Rattle.seek.proofs.Refusals.{at-11, at-12, at-13, at-none}
 use borrow.Author.Needs.{needs}

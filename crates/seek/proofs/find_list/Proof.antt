@@ -1,6 +1,5 @@
 -- `find_list`: missing, short or written, by what the map holds.
 use native.Mathlib.Omega.{arith}
-use mathlib.Core.Path.{_≡_, refl, sym, ap, _∙_, subst}
 use Rattle.seek.proofs.Lists.{ready, list-missing, list-short, list-steps}
 use borrow.Author.Needs.{needs}
 use Rattle.seek.proofs.find_list.Statement.{statement}

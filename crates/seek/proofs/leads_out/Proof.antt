@@ -1,10 +1,8 @@
 -- `leads_out`: a scan over the entries in use.
-use borrow.Author.Needs.{needs}
 use native.Mathlib.Omega.{arith}
-use mathlib.Core.Path.{_≡_, refl, sym, ap, _∙_, subst}
 use Prim.Native.Nat.{ℕ, _≤_, _<_, _-_, _*_}
 use native.Mathlib.Nat.{mul-le-mul}
-use borrow.Author.Count.{below-more, below-none}
+use borrow.Author.Count.{below-more}
 use lib.ListN.{getD}
 use Rattle.seek.specs.Meaning.Faults.{leads}
 use Rattle.seek.proofs.leads_out.Statement.{statement}

@@ -1,6 +1,5 @@
 -- `map_apart`: the search from the pairs that show different outputs.
 use native.Mathlib.Omega.{arith}
-use mathlib.Core.Path.{_≡_, refl, sym, ap, _∙_, subst}
 use Rattle.seek.proofs.Sets.{map-apart, flag-one}
 use borrow.Author.Needs.{needs}
 use Rattle.seek.proofs.map_apart.Statement.{statement}

@@ -1,6 +1,5 @@
 -- `map_both`: the search from the zeros of the first map.
 use native.Mathlib.Omega.{arith}
-use mathlib.Core.Path.{_≡_, refl, sym, ap, _∙_, subst}
 use Rattle.seek.proofs.Sets.{map-alike, flag-one}
 use borrow.Author.Needs.{needs}
 use Rattle.seek.proofs.map_both.Statement.{statement}

@@ -1,6 +1,4 @@
 -- `out_of_range`: each test is a reason.
-use native.Mathlib.Omega.{arith}
-use mathlib.Core.Path.{_≡_, refl, sym, ap, _∙_, subst}
 use Rattle.seek.specs.Meaning.Faults.{OutOfRange}
 use borrow.Author.Needs.{needs}
 use Rattle.seek.proofs.out_of_range.Statement.{statement}

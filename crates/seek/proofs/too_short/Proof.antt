@@ -1,6 +1,5 @@
 -- `too_short`: each test is a reason.
 use native.Mathlib.Omega.{arith}
-use mathlib.Core.Path.{_≡_, refl, sym, ap, _∙_, subst}
 use native.Mathlib.Nat.{mul-le-mul}
 use Rattle.seek.specs.Meaning.Faults.{TooShort}
 use borrow.Author.Needs.{needs}
