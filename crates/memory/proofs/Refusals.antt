@@ -87,3 +87,11 @@ module _ (P Q R : ℕ → Type 0) (one : (n : ℕ) → P n → R n) (two : (n : 
   lowest-either zero (suc b) p q = some-number (λ e. omega arith) (right-only (p .none refl) (q .some (λ e. omega arith)))
   lowest-either (suc a) zero p q = some-number (λ e. omega arith) (left-only (p .some (λ e. omega arith)) (q .none refl))
   lowest-either (suc a) (suc b) p q = some-number (λ e. omega arith) (lower-of (suc a) (suc b) (p .some (λ e. omega arith)) (q .some (λ e. omega arith)))
+
+-- of the numbers of R those below k are P's, which are looked for first
+module _ (P R : ℕ → Type 0) (k : ℕ) (one : (n : ℕ) → P n → R n) (early : (n : ℕ) → R n → n < k → P n) where
+  pub lowest-early : {n : ℕ} → n < k → Lowest P n → Lowest R n
+  lowest-early {n} h l = record { applies = one n (l .applies); lower = λ m q r. l .lower m q (early m r (omega arith)) }
+
+  pub lowest-late : Free P → R k → Lowest R k
+  lowest-late f r = record { applies = r; lower = λ m q g. f m (early m g q) }
