@@ -37,14 +37,20 @@ lowest-unique {n = n} {m} p q = go (tri n m)
     go (inr (inl e)) = e
     go (inr (inr h)) = absurd (p .lower m h (q .applies))
 
--- where no two answers are right, no two replies keep one promise
+-- where no two answers are right, and each fixes what it leaves behind, no two replies keep one promise, and both leave the same
+pub keeps-unique : {A L : Type 0} (P : ℕ → Type 0) (Answers : L → A → Type 0) (Cleared : L → Type 0) (l k : L)
+    → ((a b : A) → Answers l a → Answers k b → (a ≡ b) × (l ≡ k)) → (Cleared l → Cleared k → l ≡ k)
+    → (r t : Reply A) → Keeps P (Answers l) (Cleared l) r → Keeps P (Answers k) (Cleared k) t → (r ≡ t) × (l ≡ k)
+keeps-unique P Answers Cleared l k one clear (answer a) (answer b) p q = let e = one a b (p .1) (q .1) in let f = e .0 in (cc, e .1)
+keeps-unique P Answers Cleared l k one clear (answer a) (refusal m) p q = absurd (p .0 m (q .0 .applies))
+keeps-unique P Answers Cleared l k one clear (refusal n) (answer b) p q = absurd (q .0 n (p .0 .applies))
+keeps-unique P Answers Cleared l k one clear (refusal n) (refusal m) p q = let e = lowest-unique (p .0) (q .0) in (cc, clear (p .1) (q .1))
+
 pub reply-unique : {A : Type 0} (P : ℕ → Type 0) (Answers : A → Type 0) (Cleared : Type 0)
     → ((a b : A) → Answers a → Answers b → a ≡ b)
     → (r t : Reply A) → Keeps P Answers Cleared r → Keeps P Answers Cleared t → r ≡ t
-reply-unique P Answers Cleared one (answer a) (answer b) p q = let e = one a b (p .1) (q .1) in cc
-reply-unique P Answers Cleared one (answer a) (refusal m) p q = absurd (p .0 m (q .0 .applies))
-reply-unique P Answers Cleared one (refusal n) (answer b) p q = absurd (q .0 n (p .0 .applies))
-reply-unique P Answers Cleared one (refusal n) (refusal m) p q = let e = lowest-unique (p .0) (q .0) in cc
+reply-unique P Answers Cleared one r t p q =
+    keeps-unique {L = Unit {0}} P (λ _. Answers) (λ _. Cleared) tt tt (λ a b x y. (one a b x y, refl)) (λ x y. refl) r t p q .0
 
 -- the lower of two numbers, by cases
 pub lower-one : (a b : ℕ) → b ≡ 0 → a ≡ lowerNumber a b
