@@ -11,7 +11,7 @@ use Rattle.netlist.specs.Meaning.Nets.{statesOf, vectorsOf}
 use Rattle.netlist.specs.Meaning.Faults.{DesignFault, Accepted}
 use Rattle.netlist.proofs.Numbers.{fault-bounds}
 use Rattle.simulator.specs.Meaning.Clock.{ClockFault}
-use Rattle.simulator.specs.Meaning.Tables.{sizeOf, TableFault, PairFault, BothFault}
+use Rattle.simulator.specs.Meaning.Tables.{sizeOf, TableFault, InterfaceFault, BothFault}
 
 -- a clock: 3, 5 and 9 of the design, then 14
 module _ (d : Design) (s v : ℕ) where
@@ -65,19 +65,19 @@ module _ (d : Design) (n m : ℕ) where
 
 -- a pair of designs: 10
 module _ (a b : Design) where
-  is-10 : {k : ℕ} → PairFault a b k → k ≡ 10
-  is-10 (PairFault.other-inputs f) = omega arith
-  is-10 (PairFault.other-outputs f) = omega arith
+  is-10 : {k : ℕ} → InterfaceFault a b k → k ≡ 10
+  is-10 (InterfaceFault.other-inputs f) = omega arith
+  is-10 (InterfaceFault.other-outputs f) = omega arith
 
-  pub pair-10 : PairFault a b 10 → LowestOrNone (PairFault a b) 10
-  pair-10 f = some-number (λ e. omega arith) (record { applies = f; lower = λ m h g. omega (arith, is-10 g) })
+  pub interface-10 : InterfaceFault a b 10 → LowestOrNone (InterfaceFault a b) 10
+  interface-10 f = some-number (λ e. omega arith) (record { applies = f; lower = λ m h g. omega (arith, is-10 g) })
 
-  pub pair-free : a .inputs ≡ b .inputs → a .outputs ≡ b .outputs → LowestOrNone (PairFault a b) 0
-  pair-free i o = no-number free
+  pub interface-free : a .inputs ≡ b .inputs → a .outputs ≡ b .outputs → LowestOrNone (InterfaceFault a b) 0
+  interface-free i o = no-number free
     where
-      free : Free (PairFault a b)
-      free k (PairFault.other-inputs f) = f i
-      free k (PairFault.other-outputs f) = f o
+      free : Free (InterfaceFault a b)
+      free k (InterfaceFault.other-inputs f) = f i
+      free k (InterfaceFault.other-outputs f) = f o
 
 -- both: the lowest over all of these
 module _ (a b : Design) (n0 m0 n1 m1 : ℕ) where
@@ -94,16 +94,16 @@ module _ (a b : Design) (n0 m0 n1 m1 : ℕ) where
   both-of k (EitherFault.old f) = BothFault.old f
   both-of k (EitherFault.new f) = BothFault.new f
 
-  of-both : (k : ℕ) → BothFault a b n0 m0 n1 m1 k → EitherFault k ⊎ PairFault a b k
+  of-both : (k : ℕ) → BothFault a b n0 m0 n1 m1 k → EitherFault k ⊎ InterfaceFault a b k
   of-both k (BothFault.old f) = inl (EitherFault.old f)
   of-both k (BothFault.new f) = inl (EitherFault.new f)
-  of-both k (BothFault.pair f) = inr f
+  of-both k (BothFault.interface f) = inr f
 
-  pub both-lowest : {x y z w r : ℕ} → LowestOrNone (TableFault a n0 m0) x → LowestOrNone (TableFault b n1 m1) y → LowestOrNone (PairFault a b) z
+  pub both-lowest : {x y z w r : ℕ} → LowestOrNone (TableFault a n0 m0) x → LowestOrNone (TableFault b n1 m1) y → LowestOrNone (InterfaceFault a b) z
       → w ≡ lowerNumber x y → r ≡ lowerNumber w z → LowestOrNone (BothFault a b n0 m0 n1 m1) r
   both-lowest {x} {y} {z} {w} {r} p q t e f =
       let either = lowest-either (TableFault a n0 m0) (TableFault b n1 m1) EitherFault (λ k f. EitherFault.old f) (λ k f. EitherFault.new f) cases x y p q in
-      rw f (lowest-either EitherFault (PairFault a b) (BothFault a b n0 m0 n1 m1) both-of (λ k f. BothFault.pair f) of-both w z (rw e either) t)
+      rw f (lowest-either EitherFault (InterfaceFault a b) (BothFault a b n0 m0 n1 m1) both-of (λ k f. BothFault.interface f) of-both w z (rw e either) t)
 
   module _ (none : Free (BothFault a b n0 m0 n1 m1)) where
     pub old-free : Free (TableFault a n0 m0)

@@ -40,8 +40,8 @@ entry d f n t w s v h q =
     let pos : 0 < vectorsOf d = pow-pos (d .inputs) in
     w .front (s * vectorsOf d + v) (inside (vectorsOf d) pos s v (statesOf d) h q) ∙ rw (quotient (vectorsOf d) pos s v q, rest (vectorsOf d) pos s v q)
 
-pub holds : (d : Design) (n m : ℕ) (next out : List ℕ) → FilledTables d n m (sizeOf d) next out → HoldsDesign d next out
-holds d n m next out w = record {
+pub holds-design : (d : Design) (n m : ℕ) (next out : List ℕ) → FilledTables d n m (sizeOf d) next out → HoldsDesign d next out
+holds-design d n m next out w = record {
   next-entry = entry d (nextState d) n next (w .nexts);
   out-entry = entry d (outputs d) m out (w .outs);
   beyond-next = w .nexts .rest;

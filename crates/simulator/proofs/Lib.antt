@@ -6,3 +6,5 @@ pub mod Sources
 pub mod Filling
 pub mod Faults
 pub mod Room
+pub mod Determined
+pub mod Same

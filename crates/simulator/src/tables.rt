@@ -5,7 +5,7 @@ ghost use lib.ListN.{length};
 ghost use Rattle.memory.specs.Meaning.Refusals.{LowestOrNone};
 ghost use Rattle.netlist.specs.Meaning.Faults.{DesignFault};
 ghost use Rattle.netlist.specs.Working.Placing.{Sound};
-ghost use Rattle.simulator.specs.Meaning.Tables.{sizeOf, TableFault, PairFault, BothFault};
+ghost use Rattle.simulator.specs.Meaning.Tables.{sizeOf, TableFault, InterfaceFault, BothFault};
 ghost use Rattle.simulator.specs.Working.Filling.{Fillable, FilledTables};
 use netlist::Design;
 use netlist::Image;
@@ -49,12 +49,12 @@ pub fn both_number(
     let table0 = table_number(old, number0, room0);
     let table1 = table_number(new, number1, room1);
     let table = memory::lower_number(table0, table1);
-    memory::lower_number(table, pair_number(old, new))
+    memory::lower_number(table, interface_number(old, new))
 }
 
 // 10 where the designs cannot be compared, or 0.
-fn pair_number(old: Design, new: Design) -> u8
-    ensures { λ r. ⌜ LowestOrNone (PairFault old new) r ⌝ }
+fn interface_number(old: Design, new: Design) -> u8
+    ensures { λ r. ⌜ LowestOrNone (InterfaceFault old new) r ⌝ }
 {
     if old.inputs != new.inputs {
         return 10;

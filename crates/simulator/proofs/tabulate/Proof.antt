@@ -1,6 +1,6 @@
 -- `tabulate`: 3, 5, 9 and 12, then every clock.
 use Rattle.simulator.proofs.Room.{zero-tables, sound-table, fillable}
-use Rattle.simulator.proofs.Filling.{holds}
+use Rattle.simulator.proofs.Filling.{holds-design}
 use native.Mathlib.Omega.{arith}
 use mathlib.Core.Path.{_∙_}
 use borrow.Author.Needs.{needs}
@@ -51,7 +51,7 @@ same-length-4 c = search needs
 returns-2 : tie.Need-returns-2
 returns-2 c =
     record {
-      keeps = (c .before .before .before .before .before .before .before .before .before .before .before .before .before .before .before .before .before .before .before .table-number .ensures .none (c .before .before .before .before .before .before .before .before .before .before .if1 .left), record { states = c .before .power .ensures .0; vectors = c .power2 .ensures .0; holds = holds _ _ _ _ _ (c .before .before .before .before .before .before .fill .ensures) });
+      keeps = (c .before .before .before .before .before .before .before .before .before .before .before .before .before .before .before .before .before .before .before .table-number .ensures .none (c .before .before .before .before .before .before .before .before .before .before .if1 .left), record { states = c .before .power .ensures .0; vectors = c .power2 .ensures .0; holds = holds-design _ _ _ _ _ (c .before .before .before .before .before .before .fill .ensures) });
       size-next = c .before .before .before .before .before .before .fill .ensures .nexts .size ∙ c .before .before .before .before .before .before .before .before .before .before .before .before .before .before .before .before .before .clear-bytes .ensures .size;
       size-out = c .before .before .before .before .before .before .fill .ensures .outs .size ∙ c .before .before .before .before .before .before .before .before .before .before .before .before .before .clear-bytes2 .ensures .size;
     }

@@ -1,6 +1,6 @@
 -- `tabulate_both`: the lowest number over both designs, then every clock of both.
 use Rattle.simulator.proofs.Room.{zero-tables, sound-table, fillable}
-use Rattle.simulator.proofs.Filling.{holds}
+use Rattle.simulator.proofs.Filling.{holds-design}
 use Rattle.simulator.proofs.Faults.{old-free, new-free}
 use native.Mathlib.Omega.{arith}
 use mathlib.Core.Path.{_∙_}
@@ -81,7 +81,7 @@ same-length-8 c = search needs
 returns-2 : tie.Need-returns-2
 returns-2 c =
     record {
-      keeps = (c .before .before .before .before .before .before .before .before .before .before .before .before .before .before .before .before .before .before .before .before .before .before .before .before .before .before .before .before .before .before .before .before .before .before .before .before .both-number .ensures .none (c .before .before .before .before .before .before .before .before .before .before .before .before .before .before .before .before .before .before .before .if1 .left), record { old-states = c .before .before .power .ensures .0; new-states = c .before .power2 .ensures .0; vectors = c .power3 .ensures .0; old = holds _ _ _ _ _ (c .before .before .before .before .before .before .before .before .before .before .before .before .before .before .before .fill .ensures); new = holds _ _ _ _ _ (c .before .before .before .before .before .before .before .fill2 .ensures) });
+      keeps = (c .before .before .before .before .before .before .before .before .before .before .before .before .before .before .before .before .before .before .before .before .before .before .before .before .before .before .before .before .before .before .before .before .before .before .before .before .both-number .ensures .none (c .before .before .before .before .before .before .before .before .before .before .before .before .before .before .before .before .before .before .before .if1 .left), record { old-states = c .before .before .power .ensures .0; new-states = c .before .power2 .ensures .0; vectors = c .power3 .ensures .0; old = holds-design _ _ _ _ _ (c .before .before .before .before .before .before .before .before .before .before .before .before .before .before .before .fill .ensures); new = holds-design _ _ _ _ _ (c .before .before .before .before .before .before .before .fill2 .ensures) });
       size-next0 = c .before .before .before .before .before .before .before .before .before .before .before .before .before .before .before .fill .ensures .nexts .size ∙ c .before .before .before .before .before .before .before .before .before .before .before .before .before .before .before .before .before .before .before .before .before .before .before .before .before .before .before .before .before .before .before .before .before .before .clear-bytes .ensures .size;
       size-out0 = c .before .before .before .before .before .before .before .before .before .before .before .before .before .before .before .fill .ensures .outs .size ∙ c .before .before .before .before .before .before .before .before .before .before .before .before .before .before .before .before .before .before .before .before .before .before .before .before .before .before .before .before .before .before .clear-bytes2 .ensures .size;
       size-next1 = c .before .before .before .before .before .before .before .fill2 .ensures .nexts .size ∙ c .before .before .before .before .before .before .before .before .before .before .before .before .before .before .before .before .before .before .before .before .before .before .before .before .before .before .clear-bytes3 .ensures .size;

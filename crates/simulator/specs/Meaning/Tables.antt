@@ -5,7 +5,7 @@
 --   TableSizes, BothSizes       what tabulating gives: S and V; S of the old design, S of the new, and V
 --   tableReply r, bothReply r   the number or the values of each answer
 --   TableFault d n m k          number k applies to tabulating d into slices of n and m bytes
---   PairFault a b k             number k applies to the designs a and b as a pair
+--   InterfaceFault a b k        number k applies to comparing the designs a and b
 --   BothFault a b n0 m0 n1 m1 k   number k applies to tabulating both
 --   IsTable, AreTables          what an answer says
 --   Tabulates, TabulatesBoth    the answer is right, and so is what the slices hold
@@ -57,15 +57,15 @@ pub data TableFault (d : Design) (n m : ℕ) : ℕ → Type 0 where
   out : m < sizeOf d → TableFault d n m 12
 
 -- "10 I differs or O differs"
-pub data PairFault (a b : Design) : ℕ → Type 0 where
-  other-inputs : (a .inputs ≡ b .inputs → ⊥) → PairFault a b 10
-  other-outputs : (a .outputs ≡ b .outputs → ⊥) → PairFault a b 10
+pub data InterfaceFault (a b : Design) : ℕ → Type 0 where
+  other-inputs : (a .inputs ≡ b .inputs → ⊥) → InterfaceFault a b 10
+  other-outputs : (a .outputs ≡ b .outputs → ⊥) → InterfaceFault a b 10
 
 -- "another takes two designs, looks for 10 and tabulates both"
 pub data BothFault (a b : Design) (n0 m0 n1 m1 : ℕ) : ℕ → Type 0 where
   old : {k : ℕ} → TableFault a n0 m0 k → BothFault a b n0 m0 n1 m1 k
   new : {k : ℕ} → TableFault b n1 m1 k → BothFault a b n0 m0 n1 m1 k
-  pair : {k : ℕ} → PairFault a b k → BothFault a b n0 m0 n1 m1 k
+  interface : {k : ℕ} → InterfaceFault a b k → BothFault a b n0 m0 n1 m1 k
 
 -- "each S given to the verdict is 2 to that design's L, and V is 2 to the I"
 pub record IsTable (d : Design) (next out : List ℕ) (a : TableSizes) : Type 0 where

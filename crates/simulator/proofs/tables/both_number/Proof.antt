@@ -13,14 +13,14 @@ table-number-requires-2 c κs = search needs
 lower-number-requires : tie.Need-lower-number-requires
 lower-number-requires c κs = search needs
 
-pair-number-requires : tie.Need-pair-number-requires
-pair-number-requires c κs = search needs
+interface-number-requires : tie.Need-interface-number-requires
+interface-number-requires c κs = search needs
 
 lower-number-requires-2 : tie.Need-lower-number-requires-2
 lower-number-requires-2 c κs = search needs
 
 returns : tie.Need-returns
-returns c = both-lowest _ _ _ _ _ _ (c .before .before .before .before .table-number .ensures) (c .before .before .before .table-number2 .ensures) (c .before .pair-number .ensures) (c .before .before .lower-number .ensures) (c .lower-number2 .ensures)
+returns c = both-lowest _ _ _ _ _ _ (c .before .before .before .before .table-number .ensures) (c .before .before .before .table-number2 .ensures) (c .before .interface-number .ensures) (c .before .before .lower-number .ensures) (c .lower-number2 .ensures)
 
 pub both-number-spec : {M : Type 1} → statement M
 both-number-spec =
@@ -29,6 +29,6 @@ both-number-spec =
     table-number-requires
     table-number-requires-2
     lower-number-requires
-    pair-number-requires
+    interface-number-requires
     lower-number-requires-2
     returns)
