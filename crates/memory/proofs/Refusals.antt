@@ -52,6 +52,12 @@ pub reply-unique : {A : Type 0} (P : ℕ → Type 0) (Answers : A → Type 0) (C
 reply-unique P Answers Cleared one r t p q =
     keeps-unique {L = Unit {0}} P (λ _. Answers) (λ _. Cleared) tt tt (λ a b x y. (one a b x y, refl)) (λ x y. refl) r t p q .0
 
+-- a promise over other conditions that say the same
+pub keeps-map : {A : Type 0} {P Q : ℕ → Type 0} {Answers Others : A → Type 0} {Cleared Bare : Type 0} → ((n : ℕ) → P n → Q n) → ((n : ℕ) → Q n → P n)
+    → ((a : A) → Answers a → Others a) → (Cleared → Bare) → (r : Reply A) → Keeps P Answers Cleared r → Keeps Q Others Bare r
+keeps-map to from says clear (answer a) p = (λ n q. p .0 n (from n q), says a (p .1))
+keeps-map to from says clear (refusal n) p = (record { applies = to n (p .0 .applies); lower = λ m h q. p .0 .lower m h (from m q) }, clear (p .1))
+
 -- the lower of two numbers, by cases
 pub lower-one : (a b : ℕ) → b ≡ 0 → a ≡ lowerNumber a b
 lower-one zero zero z = refl
@@ -93,3 +99,11 @@ module _ (P Q R : ℕ → Type 0) (one : (n : ℕ) → P n → R n) (two : (n : 
   lowest-either zero (suc b) p q = some-number (λ e. omega arith) (right-only (p .none refl) (q .some (λ e. omega arith)))
   lowest-either (suc a) zero p q = some-number (λ e. omega arith) (left-only (p .some (λ e. omega arith)) (q .none refl))
   lowest-either (suc a) (suc b) p q = some-number (λ e. omega arith) (lower-of (suc a) (suc b) (p .some (λ e. omega arith)) (q .some (λ e. omega arith)))
+
+-- of the numbers of R those below k are P's, which are looked for first
+module _ (P R : ℕ → Type 0) (k : ℕ) (one : (n : ℕ) → P n → R n) (early : (n : ℕ) → R n → n < k → P n) where
+  pub lowest-early : {n : ℕ} → n < k → Lowest P n → Lowest R n
+  lowest-early {n} h l = record { applies = one n (l .applies); lower = λ m q r. l .lower m q (early m r (omega arith)) }
+
+  pub lowest-late : Free P → R k → Lowest R k
+  lowest-late f r = record { applies = r; lower = λ m q g. f m (early m g q) }
