@@ -1,11 +1,11 @@
 -- Lists of vectors: joined lists, lists into sets that agree, and the sets after i rounds.
 use mathlib.Core.Path.{_≡_, refl}
-use mathlib.Core.Logic.{_⊎_, inl, inr, ⊎-elim}
+use mathlib.Core.Logic.{inl, inr}
 use mathlib.Core.List.{List, [], _∷_, _++_}
-use Prim.Native.Nat.{ℕ, zero, suc, _<_, _≤_}
+use Prim.Native.Nat.{ℕ, zero, suc, _≤_}
 use native.Mathlib.Omega.{arith}
 use lib.ListN.{length}
-use Rattle.machine.specs.Meaning.Lists.{Each, Before, First, run, Leads}
+use Rattle.machine.specs.Meaning.Lists.{Each, First, run, Leads}
 use Rattle.machine.specs.Working.Maps.{Dist, Complete, Within, Grown, FirstStill}
 
 pub each-append : (Ok : ℕ → Type 0) (a b : List ℕ) → Each Ok a → Each Ok b → Each Ok (a ++ b)

@@ -1,5 +1,5 @@
 -- Sections 3.2 and 3.3: what the sets A_i and B_i hold, and the number of the first round that changes nothing.
-use mathlib.Core.Path.{_≡_, refl, sym, ap}
+use mathlib.Core.Path.{_≡_}
 use mathlib.Core.Logic.{_⊎_, inl, inr}
 use mathlib.Core.List.{List, [], _∷_}
 use Prim.Native.Nat.{ℕ, zero, suc, _<_, _≤_}
@@ -7,7 +7,7 @@ use native.Mathlib.Omega.{arith}
 use lib.ListN.{length}
 use Rattle.numbers.proofs.Order.{tri, stable}
 use Rattle.machine.specs.declared.Pair.{Pair}
-use Rattle.machine.specs.Meaning.Lists.{Each, run, Leads}
+use Rattle.machine.specs.Meaning.Lists.{Each, run}
 use Rattle.machine.specs.Meaning.Machine.{Machine, step, SameOut, Alike, Alignable}
 use Rattle.machine.specs.Meaning.Rounds.{EqualOutputs, A, B, Unchanged, FirstUnchanged}
 use Rattle.machine.specs.Working.Maps.{Within, Grown, FirstStill}

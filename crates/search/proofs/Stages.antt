@@ -1,22 +1,23 @@
 -- The rounds, one after the other, to the first that changes nothing.
-use mathlib.Core.Path.{_≡_, refl, sym, ap, _∙_, subst}
+use mathlib.Core.Path.{_≡_, refl, _∙_}
 use mathlib.Core.Logic.{_⊎_, inl, inr, ⊎-elim}
 use mathlib.Core.List.{List}
-use Prim.Native.Nat.{ℕ, zero, suc, _<_, _≤_, _+_, _-_, _*_}
+use Prim.Native.Nat.{ℕ, suc, _<_, _≤_, _+_, _-_}
 use native.Mathlib.Omega.{arith}
 use native.Mathlib.Numerals.{add-one}
-use lib.Dec.{T, eqb, eqb→eq, eqb-refl}
+use lib.Dec.{eqb, eqb→eq, eqb-refl}
 use lib.ListN.{length, getD}
-use Rattle.machine.specs.declared.Pair.{Pair}
 use Rattle.machine.specs.declared.Sizes.{Sizes}
 use Rattle.machine.specs.Meaning.Tables.{pairs, number, at, In, Ok}
 use Rattle.numbers.proofs.Order.{zero-or}
-use Rattle.numbers.specs.Meaning.Count.{count, countOf}
+use Rattle.numbers.specs.Meaning.Count.{countOf}
 use Rattle.machine.specs.Working.Maps.{Right, Grown}
 use Rattle.numbers.proofs.Counting.{count-le, count-witness}
 use Rattle.machine.proofs.Maps.{right-start, right-more, complete, moved, unmoved}
-use Rattle.search.specs.Working.{move, pairAt, Nexts, Ones, Rounded, Searched}
-use Rattle.search.proofs.Cells.{closed, number-in, pairAt-in, at-pair}
+use Rattle.search.specs.Working.{move, Nexts, Ones, Rounded, Searched}
+use Rattle.machine.specs.Working.Pairs.{pairAt}
+use Rattle.machine.proofs.Numbers.{number-in, pairAt-in, at-pair}
+use Rattle.search.proofs.Cells.{closed}
 
 module _ (z : Sizes) (next0 next1 d₀ : List ℕ) where
   -- k - 1 rounds are done, and each of them changed the map

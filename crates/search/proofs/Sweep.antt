@@ -1,9 +1,9 @@
 -- One round, as a sweep over the numbers of the pairs that changes the map in place.
-use mathlib.Core.Path.{_≡_, refl, sym, ap, ap₂, _∙_, subst}
+use mathlib.Core.Path.{_≡_, refl, sym, ap, _∙_, subst}
 use mathlib.Core.Logic.{_⊎_, inl, inr, ⊎-elim}
-use mathlib.Core.Bool.{Bool, true, false}
+use mathlib.Core.Bool.{Bool}
 use mathlib.Core.List.{List}
-use Prim.Native.Nat.{ℕ, zero, suc, _<_, _≤_, _+_, _*_, _/_, _%_}
+use Prim.Native.Nat.{ℕ, suc, _<_, _≤_, _+_}
 use native.Mathlib.Omega.{arith}
 use native.Mathlib.Numerals.{add-one}
 use lib.ListN.{length, getD, set, length-set}
@@ -13,8 +13,9 @@ use Rattle.machine.specs.declared.Sizes.{Sizes}
 use Rattle.machine.specs.Meaning.Tables.{pairs, number, at, In, Ok}
 use Rattle.machine.specs.Working.Maps.{Round}
 use Rattle.numbers.proofs.Order.{tri}
-use Rattle.search.specs.Working.{move, pairAt, To, Visited, kept, none, fresh}
-use Rattle.search.proofs.Cells.{pair-number, number-in}
+use Rattle.search.specs.Working.{move, To, Visited, kept, none, fresh}
+use Rattle.machine.specs.Working.Pairs.{pairAt}
+use Rattle.machine.proofs.Numbers.{pair-number, number-in}
 
 module _ (z : Sizes) (next0 next1 : List ℕ) (k : ℕ) (d₀ : List ℕ) where
   -- a vector leads from the pair numbered q to k
