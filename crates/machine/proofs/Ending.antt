@@ -32,17 +32,17 @@ abbrev pub led : Machine → Machine → Sizes → List ℕ → ℕ → Pair
 led m0 m1 z l n = run (step m0 m1) (pairAt z n) l
 
 -- how many pairs of power-up states the list l does not lead to a pair that the test b says is alike
-unfoldable pub left : Machine → Machine → Sizes → (Pair → Bool) → List ℕ → ℕ
-left m0 m1 z b l = count (λ n. not (b (led m0 m1 z l n))) (pairs z)
+unfoldable pub unaligned : Machine → Machine → Sizes → (Pair → Bool) → List ℕ → ℕ
+unaligned m0 m1 z b l = count (λ n. not (b (led m0 m1 z l n))) (pairs z)
 
 module _ (m0 m1 : Machine) (z : Sizes) (closed : Closed m0 m1 z) (b : Pair → Bool) (tells : Test (In z) (Alike m0 m1 (Ok z)) b) where
   led-in : (l : List ℕ) → Each (Ok z) l → (n : ℕ) → n < pairs z → In z (led m0 m1 z l n)
   led-in l o n h = run-in (step m0 m1) (Ok z) (In z) closed (pairAt z n) l (pairAt-in z n h) o
 
   -- a round leaves fewer of them
-  pub left-falls : (l m : List ℕ) → Each (Ok z) l → (p : Pair) → May m0 m1 z l p → (Alike m0 m1 (Ok z) p → ⊥) → Leads (step m0 m1) (Ok z) (Alike m0 m1 (Ok z)) p m → left m0 m1 z b (l ++ m) < left m0 m1 z b l
-  unfolding left
-  left-falls l m o p y open′ w =
+  pub unaligned-falls : (l m : List ℕ) → Each (Ok z) l → (p : Pair) → May m0 m1 z l p → (Alike m0 m1 (Ok z) p → ⊥) → Leads (step m0 m1) (Ok z) (Alike m0 m1 (Ok z)) p m → unaligned m0 m1 z b (l ++ m) < unaligned m0 m1 z b l
+  unfolding unaligned
+  unaligned-falls l m o p y open′ w =
       count-lt (λ n. not (b (led m0 m1 z (l ++ m) n))) (λ n. not (b (led m0 m1 z l n))) (pairs z)
       stays (number z (y .from)) (number-in z (y .from) (y .inside)) closes opens
     where
@@ -111,24 +111,24 @@ module _ (m0 m1 : Machine) (z : Sizes) (closed : Closed m0 m1 z) (b : Pair → B
         )
 
   module _ (all : AllAlign m0 m1 z) where
-    rounds-from : (fuel : ℕ) (l : List ℕ) → Each (Ok z) l → left m0 m1 z b l < fuel → (r : List ℕ) × Rounds m0 m1 z r l
+    rounds-from : (fuel : ℕ) (l : List ℕ) → Each (Ok z) l → unaligned m0 m1 z b l < fuel → (r : List ℕ) × Rounds m0 m1 z r l
     rounds-from zero l ok h = absurd (omega arith)
     rounds-from (suc fuel) l ok h = go (λ m k f. rounds-from fuel (l ++ m) k f) (least (Open l) (dec-open l) (pairs z))
       where
-        go : ((m : List ℕ) → Each (Ok z) (l ++ m) → left m0 m1 z b (l ++ m) < fuel → (r : List ℕ) × Rounds m0 m1 z r (l ++ m)) → Least (Open l) (dec-open l) (pairs z) ⊎ ((i : ℕ) → i < pairs z → Open l i → ⊥) → (r : List ℕ) × Rounds m0 m1 z r l
+        go : ((m : List ℕ) → Each (Ok z) (l ++ m) → unaligned m0 m1 z b (l ++ m) < fuel → (r : List ℕ) × Rounds m0 m1 z r (l ++ m)) → Least (Open l) (dec-open l) (pairs z) ⊎ ((i : ℕ) → i < pairs z → Open l i → ⊥) → (r : List ℕ) × Rounds m0 m1 z r l
         go rec (inr f) = (l, done refl (λ p y. alike-by l ok p y (f (number z p) (number-in z p (may-in m0 m1 z closed l ok p y)))))
         go rec (inl x) =
             let g = lowest-open l ok x in
             let i = may-in m0 m1 z closed l ok (g .0) (g .1 .may) in
             let m = list-exists m0 m1 z closed (g .0) i (all .all (g .0) i) in
             let k = each-append (Ok z) l (m .0) ok (m .1 .has .allowed) in
-            let r = rec (m .0) k (omega (arith, left-falls l (m .0) ok (g .0) (g .1 .may) (g .1 .open′) (m .1 .has))) in
+            let r = rec (m .0) k (omega (arith, unaligned-falls l (m .0) ok (g .0) (g .1 .may) (g .1 .open′) (m .1 .has))) in
             (r .0, more (g .0) (g .1) (m .0) (m .1) (r .1))
 
 module _ (m0 m1 : Machine) (z : Sizes) (closed : Closed m0 m1 z) where
   -- the rounds end, from any list on
   pub rounds-exist : AllAlign m0 m1 z → (l : List ℕ) → Each (Ok z) l → (r : List ℕ) × Rounds m0 m1 z r l
-  rounds-exist all l ok = let t = tell-alike m0 m1 z closed in rounds-from m0 m1 z closed (t .0) (t .1) all (suc (left m0 m1 z (t .0) l)) l ok (omega arith)
+  rounds-exist all l ok = let t = tell-alike m0 m1 z closed in rounds-from m0 m1 z closed (t .0) (t .1) all (suc (unaligned m0 m1 z (t .0) l)) l ok (omega arith)
 
   pub same-exists : AllAlign m0 m1 z → (l : List ℕ) × IsSame m0 m1 z l
   same-exists all = let r = rounds-exist all [] tt in (r .0, record { all = all; rounds = r .1 })

@@ -1,11 +1,15 @@
 -- Laws on the lowest number that applies, and on replies.
 use Prim.Native.Nat.{ℕ, zero, suc, _+_, _<_, _≤_, min}
 use mathlib.Core.Path.{_≡_, refl, subst}
+use mathlib.Core.List.{List}
 use mathlib.Core.Logic.{_⊎_, inl, inr, ⊎-elim}
 use native.Mathlib.Omega.{arith}
 use native.Mathlib.Decide.{ℕ-discrete}
+use lib.ListN.{length}
 use borrow.Author.Count.{below-more}
 use Rattle.numbers.proofs.Order.{tri}
+use Rattle.memory.specs.Meaning.Slices.{Zero}
+use Rattle.memory.proofs.Slices.{zero-unique}
 use Rattle.memory.specs.Meaning.Refusals.{Free, Lowest, LowestOrNone, lowerNumber, Reply, answer, refusal, Keeps}
 
 -- no number below k applies
@@ -37,14 +41,28 @@ lowest-unique {n = n} {m} p q = go (tri n m)
     go (inr (inl e)) = e
     go (inr (inr h)) = absurd (p .lower m h (q .applies))
 
--- where no two answers are right, no two replies keep one promise
+-- where no two answers are right, no two replies keep one promise, even if each is right of what its own call left
+pub replies-unique : {A : Type 0} (P : ℕ → Type 0) (Answers Answers′ : A → Type 0) (Cleared Cleared′ : Type 0)
+    → (Free P → (a b : A) → Answers a → Answers′ b → a ≡ b)
+    → (r t : Reply A) → Keeps P Answers Cleared r → Keeps P Answers′ Cleared′ t → r ≡ t
+replies-unique P Answers Answers′ Cleared Cleared′ one (answer a) (answer b) p q = let e = one (p .0) a b (p .1) (q .1) in cc
+replies-unique P Answers Answers′ Cleared Cleared′ one (answer a) (refusal m) p q = absurd (p .0 m (q .0 .applies))
+replies-unique P Answers Answers′ Cleared Cleared′ one (refusal n) (answer b) p q = absurd (q .0 n (p .0 .applies))
+replies-unique P Answers Answers′ Cleared Cleared′ one (refusal n) (refusal m) p q = let e = lowest-unique (p .0) (q .0) in cc
+
 pub reply-unique : {A : Type 0} (P : ℕ → Type 0) (Answers : A → Type 0) (Cleared : Type 0)
     → ((a b : A) → Answers a → Answers b → a ≡ b)
     → (r t : Reply A) → Keeps P Answers Cleared r → Keeps P Answers Cleared t → r ≡ t
-reply-unique P Answers Cleared one (answer a) (answer b) p q = let e = one a b (p .1) (q .1) in cc
-reply-unique P Answers Cleared one (answer a) (refusal m) p q = absurd (p .0 m (q .0 .applies))
-reply-unique P Answers Cleared one (refusal n) (answer b) p q = absurd (q .0 n (p .0 .applies))
-reply-unique P Answers Cleared one (refusal n) (refusal m) p q = let e = lowest-unique (p .0) (q .0) in cc
+reply-unique P Answers Cleared one = replies-unique P Answers Answers Cleared Cleared (λ f. one)
+
+-- and where no two lists are right, no two are left in a slice that a refusal clears
+pub slices-unique : {A : Type 0} (P : ℕ → Type 0) (Answers Answers′ : A → Type 0) (a b : List ℕ) → length a ≡ length b
+    → (Free P → (x y : A) → Answers x → Answers′ y → a ≡ b)
+    → (r t : Reply A) → Keeps P Answers (Zero a) r → Keeps P Answers′ (Zero b) t → a ≡ b
+slices-unique P Answers Answers′ a b e one (answer x) (answer y) p q = one (p .0) x y (p .1) (q .1)
+slices-unique P Answers Answers′ a b e one (answer x) (refusal m) p q = absurd (p .0 m (q .0 .applies))
+slices-unique P Answers Answers′ a b e one (refusal n) (answer y) p q = absurd (q .0 n (p .0 .applies))
+slices-unique P Answers Answers′ a b e one (refusal n) (refusal m) p q = zero-unique a b e (p .1) (q .1)
 
 -- the lower of two numbers, by cases
 pub lower-one : (a b : ℕ) → b ≡ 0 → a ≡ lowerNumber a b
@@ -70,6 +88,15 @@ module _ (P Q R : ℕ → Type 0) (one : (n : ℕ) → P n → R n) (two : (n : 
 
   right-only : {n : ℕ} → Free P → Lowest Q n → Lowest R n
   right-only {n} f l = record { applies = two n (l .applies); lower = λ m h r. ⊎-elim (λ p. f m p) (λ q. l .lower m h q) (either m r) }
+
+  -- P is looked for first, and every number of Q is higher
+  pub lowest-first : {n : ℕ} → Lowest P n → ((m : ℕ) → Q m → n ≤ m) → Lowest R n
+  lowest-first {n} l above = record { applies = one n (l .applies); lower = λ m h r. ⊎-elim (λ p. l .lower m h p) (λ q. omega (arith, above m q)) (either m r) }
+
+  -- nothing has P, so a reply that is right of Q is right
+  pub keeps-second : {A : Type 0} (Answers : A → Type 0) (Cleared : Type 0) → Free P → (r : Reply A) → Keeps Q Answers Cleared r → Keeps R Answers Cleared r
+  keeps-second Answers Cleared f (answer a) k = (λ n r. ⊎-elim (λ p. f n p) (λ q. k .0 n q) (either n r), k .1)
+  keeps-second Answers Cleared f (refusal n) k = (right-only f (k .0), k .1)
 
   lower-of : (a b : ℕ) → Lowest P a → Lowest Q b → Lowest R (min a b)
   lower-of a b p q = go (tri a b)
