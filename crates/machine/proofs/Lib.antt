@@ -10,3 +10,4 @@ pub mod Finding
 pub mod Telling
 pub mod Verdict
 pub mod Ending
+pub mod Written
