@@ -11,3 +11,4 @@ pub mod Telling
 pub mod Verdict
 pub mod Ending
 pub mod Written
+pub mod Transfer
