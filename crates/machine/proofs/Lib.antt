@@ -10,3 +10,5 @@ pub mod Finding
 pub mod Telling
 pub mod Verdict
 pub mod Ending
+pub mod Written
+pub mod Transfer

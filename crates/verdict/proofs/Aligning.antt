@@ -1,12 +1,12 @@
 -- The loop that builds the verdict's list.
 use mathlib.Core.Path.{_≡_, refl, sym, ap, _∙_, subst}
 use mathlib.Core.Bool.{Bool, true, false}
-use mathlib.Core.List.{List, [], _∷_, _++_}
+use mathlib.Core.List.{List, [], _++_}
 use Prim.Native.Nat.{ℕ, _<_, _≤_, _+_, _-_}
 use native.Mathlib.Omega.{arith}
 use lib.Dec.{eqb}
-use lib.ListN.{length, getD, take, replicate, getD-replicate, length-append, length-drop}
-use lib.Seq.{slice, length-take-le, getD-take, getD-drop}
+use lib.ListN.{length, getD, take, replicate, length-append}
+use lib.Seq.{slice, length-take-le}
 use Rattle.numbers.proofs.Order.{stable}
 use Rattle.memory.specs.Meaning.Slices.{Zero, Cleared}
 use Rattle.memory.proofs.Slices.{zero-unique}
@@ -16,9 +16,9 @@ use Rattle.machine.specs.declared.Sizes.{Sizes}
 use Rattle.machine.specs.Meaning.Lists.{Each, run}
 use Rattle.machine.specs.Meaning.Machine.{Machine}
 use Rattle.machine.specs.Meaning.Tables.{Tables, pairs, number, at, In, Ok, oldMachine, newMachine, AlikeIn}
-use Rattle.machine.specs.Meaning.Verdict.{May, LowestOpen, Rounds, done, more, AllAlign, IsSame}
-use Rattle.machine.specs.Working.Pairs.{pairAt, stepIn}
-use Rattle.machine.proofs.Lists.{each-append, each-at, run-append}
+use Rattle.machine.specs.Meaning.Verdict.{May, LowestOpen, Rounds, done, more}
+use Rattle.machine.specs.Working.Pairs.{pairAt}
+use Rattle.machine.proofs.Lists.{each-append}
 use Rattle.machine.proofs.Numbers.{same-pair, pair-number, number-in, pairAt-in, number-pair}
 use Rattle.machine.proofs.Finding.{Test}
 use Rattle.machine.proofs.Telling.{alike-test}
@@ -27,32 +27,9 @@ use Rattle.machine.proofs.Ending.{unaligned, unaligned-falls, rounds-exist}
 use Rattle.search.specs.Working.{LowestBelow}
 use Rattle.seek.specs.Working.Steps.{Outcome, short, steps}
 use Rattle.seek.proofs.Sets.{inside, alike-of-zero, zero-of-alike}
-use Rattle.verdict.specs.Working.Marks.{Image, Leading, OpenAt, Mapped, Added, Appended, added, full}
-use Rattle.verdict.proofs.Images.{run-under}
-
--- the marks are those of the states in which one design may be after the list l, from any state below n
-pub record After (next : ℕ → ℕ → ℕ) (n : ℕ) (l : List ℕ) (marks : List Bool) : Type 0 where
-  pub back : (q : ℕ) → q < n → getD marks q false ≡ true → (s : ℕ) × (s < n) × (run next s l ≡ q)
-  pub forth : (s : ℕ) → s < n → getD marks (run next s l) false ≡ true
-
-pub after-none : (next : ℕ → ℕ → ℕ) (n : ℕ) → n ≤ 128 → After next n [] (replicate 128 true)
-after-none next n h = record { back = λ q l t. (q, l, refl); forth = λ s l. getD-replicate 128 s true false (omega arith) }
-
-after-more : (next : ℕ → ℕ → ℕ) (n : ℕ) (l m : List ℕ) (marks out : List Bool) → ((s : ℕ) → s < n → run next s l < n) → After next n l marks → Image (λ s. run next s m) n marks out → After next n (l ++ m) out
-after-more next n l m marks out under a i = record {
-  back = λ q h t.
-      let u = i .back q h t in
-      let w = a .back (u .state) (u .under) (u .marked) in
-      (w .0, w .1, run-append next (w .0) l m ∙ ap (λ (s : ℕ). run next s m) (w .2) ∙ u .leads);
-  forth = λ s h. rw run-append (i .forth (run next s l) (under s h) (a .forth s h));
-}
-
--- the entries of a part are those of the list
-slice-at : (Ok : ℕ → Type 0) (l : List ℕ) (from to : ℕ) → to ≤ length l → Each Ok (slice from to l) → (i : ℕ) → from ≤ i → i < to → Ok (getD l i 0)
-slice-at Ok l from to b o i c d =
-    let j : from + (i - from) ≡ i = omega arith in
-    let q : getD (slice from to l) (i - from) 0 ≡ getD l i 0 = getD-drop from (take to l) (i - from) 0 ∙ ap (λ (n : ℕ). getD (take to l) n 0) j ∙ getD-take to l i 0 d in
-    subst Ok q (each-at Ok (slice from to l) (i - from) o (omega (arith, length-drop from (take to l), length-take-le to l b)))
+use Rattle.verdict.specs.Working.Marks.{AllAlignIn, SameIn, Image, Leading, OpenAt, Mapped, Added, Appended, added, full}
+use Rattle.verdict.proofs.Images.{run-pair, below-all, After, after-none, after-more, run-under}
+use Rattle.verdict.proofs.Parts.{slice-at}
 
 module _ (t : Tables) where
   abbrev z : Sizes
@@ -73,14 +50,6 @@ module _ (t : Tables) where
     pub after1 : After (m1 .next) (z .new) (take len list) marks1
     pub joins : (r : List ℕ) → Rounds m0 m1 z r (take len list) → Rounds m0 m1 z r []
     pub rest : (i : ℕ) → len ≤ i → getD list i 0 ≡ getD list₀ i 0
-
-  run-pair : (p : Pair) (l : List ℕ) → run (stepIn t) p l ≡ record { old = run (m0 .next) (p .old) l; new = run (m1 .next) (p .new) l }
-  run-pair p [] = refl
-  run-pair p (v ∷ l) = run-pair (stepIn t p v) l
-
-  below-all : (l : List ℕ) → Each (Ok z) l → Each (λ v. v < z .vectors) l
-  below-all [] o = tt
-  below-all (v ∷ l) o = (o .0 .below, below-all l (o .1))
 
   module _ {depth reach : List ℕ} (m : Mapped t depth reach) where
     pub leading-old : Leading (z .old) (z .vectors) (t .old-next)
@@ -112,11 +81,11 @@ module _ (t : Tables) where
           record {
             from = record { old = x .0; new = y .0 };
             inside = record { in-old = x .1; in-new = y .1 };
-            arrives = run-pair (record { old = x .0; new = y .0 }) (take len list) ∙ same-pair (x .2) (y .2);
+            arrives = run-pair t (record { old = x .0; new = y .0 }) (take len list) ∙ same-pair (x .2) (y .2);
           }
 
       marked : (q : Pair) → May m0 m1 z (take len list) q → (getD marks0 (q .old) false ≡ true) × (getD marks1 (q .new) false ≡ true)
-      marked q y = subst (λ (x : Pair). (getD marks0 (x .old) false ≡ true) × (getD marks1 (x .new) false ≡ true)) (sym (run-pair (y .from) (take len list)) ∙ y .arrives) (w .after0 .forth (y .from .old) (y .inside .in-old), w .after1 .forth (y .from .new) (y .inside .in-new))
+      marked q y = subst (λ (x : Pair). (getD marks0 (x .old) false ≡ true) × (getD marks1 (x .new) false ≡ true)) (sym (run-pair t (y .from) (take len list)) ∙ y .arrives) (w .after0 .forth (y .from .old) (y .inside .in-old), w .after1 .forth (y .from .new) (y .inside .in-new))
 
       may-inside : (q : Pair) → May m0 m1 z (take len list) q → In z q
       may-inside q y = may-in m0 m1 z (inside t (m .good)) (take len list) (w .ok) q y
@@ -130,7 +99,7 @@ module _ (t : Tables) where
             iq = may-inside q y
 
         -- every pair is alike: the rounds are done
-        pub aligned : AllAlign m0 m1 z → i ≡ pairs z → Outcome ⊥ (IsSame m0 m1 z) list₀ list (Found.Steps len)
+        pub aligned : AllAlignIn t → i ≡ pairs z → Outcome ⊥ (SameIn t) list₀ list (Found.Steps len)
         aligned all e = steps (λ x. x) len (omega (arith, w .long, w .under)) (record { all = all; rounds = w .joins (take len list) (done refl (λ q y. below q y (omega (arith, number-in z q (may-inside q y))))) }) (w .rest)
 
         -- the pair p that the scan found
@@ -155,7 +124,7 @@ module _ (t : Tables) where
                 }
 
             -- no room for this pair's list: the list of the rounds is no shorter than what is written and this
-            pub no-room : AllAlign m0 m1 z → Zero list₀ → {on cleared : List ℕ} {k : ℕ} → Appended t p len list on (Found.Refused k) → length on ≡ length list → Cleared (length on) cleared → Outcome ⊥ (IsSame m0 m1 z) list₀ cleared (Found.Refused 16)
+            pub no-room : AllAlignIn t → Zero list₀ → {on cleared : List ℕ} {k : ℕ} → Appended t p len list on (Found.Refused k) → length on ≡ length list → Cleared (length on) cleared → Outcome ⊥ (SameIn t) list₀ cleared (Found.Refused 16)
             no-room all o (full part f l) k c =
                 let r = rounds-exist m0 m1 z (inside t (m .good)) all (take len list ++ part) (each-append (Ok z) (take len list) part (w .ok) (f .has .allowed)) in
                 short (λ x. x) (r .0) (record { all = all; rounds = w .joins (r .0) (more p lowest part f (r .1)) })
@@ -167,7 +136,7 @@ module _ (t : Tables) where
               added-fits = omega (arith, a .fits, a .long)
 
               pub part-below : (j : ℕ) → len ≤ j → j < len + k → getD on j 0 < z .vectors
-              part-below = slice-at (λ v. v < z .vectors) on len (len + k) added-fits (rw (a .slices) (below-all (a .part) (a .its-list .has .allowed)))
+              part-below = slice-at (λ v. v < z .vectors) on len (len + k) added-fits (rw (a .slices) (below-all t (a .part) (a .its-list .has .allowed)))
 
               pub falls : unaligned m0 m1 z (λ p. eqb (at z depth p) 0) (take (len + k) on) < unaligned m0 m1 z (λ p. eqb (at z depth p) 0) (take len list)
               falls = rw (a .joins) (unaligned-falls m0 m1 z (inside t (m .good)) (λ p. eqb (at z depth p) 0) tells (take len list) (a .part) (w .ok) p (lowest .may) (lowest .open′) (a .its-list .has))
@@ -177,8 +146,8 @@ module _ (t : Tables) where
                 long = a .long ∙ w .long;
                 under = added-fits;
                 ok = rw (a .joins) (each-append (Ok z) (take len list) (a .part) (w .ok) (a .its-list .has .allowed));
-                after0 = rw (a .joins) (after-more (m0 .next) (z .old) (take len list) (a .part) marks0 next0 (λ s b. run-under leading-old s (take len list) b (below-all (take len list) (w .ok))) (w .after0) (rw (a .slices) at i0));
-                after1 = rw (a .joins) (after-more (m1 .next) (z .new) (take len list) (a .part) marks1 next1 (λ s b. run-under leading-new s (take len list) b (below-all (take len list) (w .ok))) (w .after1) (rw (a .slices) at i1));
+                after0 = rw (a .joins) (after-more (m0 .next) (z .old) (take len list) (a .part) marks0 next0 (λ s b. run-under leading-old s (take len list) b (below-all t (take len list) (w .ok))) (w .after0) (rw (a .slices) at i0));
+                after1 = rw (a .joins) (after-more (m1 .next) (z .new) (take len list) (a .part) marks1 next1 (λ s b. run-under leading-new s (take len list) b (below-all t (take len list) (w .ok))) (w .after1) (rw (a .slices) at i1));
                 joins = rw (a .joins) (λ r x. w .joins r (more p lowest (a .part) (a .its-list) x));
                 rest = λ j l. a .rest j l ∙ w .rest j (omega arith);
               }

@@ -15,7 +15,7 @@ use Rattle.machine.specs.declared.Pair.{Pair}
 use Rattle.machine.specs.declared.Sizes.{Sizes}
 use Rattle.machine.specs.Meaning.Machine.{Machine}
 use Rattle.machine.specs.Meaning.Tables.{Tables, number, at, In, oldMachine, newMachine, AlikeIn, AlignableIn, TraceIn}
-use Rattle.machine.specs.Meaning.Verdict.{LowestApart, AllAlign, IsSame, IsApart, Written}
+use Rattle.machine.specs.Meaning.Verdict.{LowestApart, IsApart, Written}
 use Rattle.machine.specs.Meaning.Verdict as W
 use Rattle.machine.proofs.Pairs.{alike-alignable}
 use Rattle.machine.proofs.Verdict.{written-unique}
@@ -24,7 +24,7 @@ use Rattle.seek.specs.Working.Steps as E
 use Rattle.seek.proofs.Sets.{inside}
 use Rattle.verdict.specs.declared.Verdict.{Verdict}
 use Rattle.verdict.specs.Meaning.Decision.{ShortList, short}
-use Rattle.verdict.specs.Working.Marks.{LowestZero, Mapped, Settled}
+use Rattle.verdict.specs.Working.Marks.{AllAlignIn, SameIn, LowestZero, Mapped, Settled}
 
 module _ (t : Tables) where
   abbrev z : Sizes
@@ -51,7 +51,7 @@ module _ (t : Tables) where
           go q i l (inr (inr a)) = absurd (omega (arith, digits-lt {q = r .old} {m = q .old} {r = r .new} {c = z .new} a (s .found h .0 .in-new)))
 
       -- the scan passed all pairs: each is alignable
-      pub all-align : z .old ≤ r .old → AllAlign m0 m1 z
+      pub all-align : z .old ≤ r .old → AllAlignIn t
       all-align h = record { all = λ p i. alignable p i (s .rows p i (omega (arith, i .in-old))) }
 
   -- 16 applies where the list is longer than the slice, and nothing where it fits
@@ -71,13 +71,13 @@ module _ (t : Tables) where
         let v : IsApart m0 m1 z p (take n list′) = record { lowest = w; trace = s } in
         record { keeps = (fitting g list list′ n e f (W.apart p v), record { sought = v; fits = omega (arith, e); beyond = λ i h. b i h ∙ o i (omega arith) }) }
 
-    pub settled-same : {n : ℕ} → Outcome ⊥ (IsSame m0 m1 z) list list′ (Found.Steps n) → Settled t (length list) list′ (Verdict.Same n)
+    pub settled-same : {n : ℕ} → Outcome ⊥ (SameIn t) list list′ (Found.Steps n) → Settled t (length list) list′ (Verdict.Same n)
     settled-same (steps a n f s b) = record { keeps = (fitting g list list′ n e f (W.same s), record { sought = s; fits = omega (arith, e); beyond = λ i h. b i h ∙ o i (omega arith) }) }
 
   pub settled-no-trace : {list list′ : List ℕ} {p : Pair} {n : ℕ} → Zero list → LowestApart m0 m1 z p → Outcome (AlikeIn t p) (TraceIn t p) list list′ (Found.Refused n) → Settled t (length list) list′ (Verdict.Refused 16)
   settled-no-trace {p = p} o w (missing a q) = absurd (w .apart (alike-alignable m0 m1 _ p a))
   settled-no-trace {p = p} o w (E.short a l s h q) = record { keeps = (too-long l (W.apart p (record { lowest = w; trace = s })) h, rw q o) }
 
-  pub settled-no-list : {list list′ : List ℕ} {n : ℕ} → Zero list → Outcome ⊥ (IsSame m0 m1 z) list list′ (Found.Refused n) → Settled t (length list) list′ (Verdict.Refused 16)
+  pub settled-no-list : {list list′ : List ℕ} {n : ℕ} → Zero list → Outcome ⊥ (SameIn t) list list′ (Found.Refused n) → Settled t (length list) list′ (Verdict.Refused 16)
   settled-no-list o (missing a q) = absurd a
   settled-no-list o (E.short a l s h q) = record { keeps = (too-long l (W.same s) h, rw q o) }

@@ -1,5 +1,5 @@
 -- Marks of states, the marks one step later, and the marks after a list of vectors.
-use mathlib.Core.Path.{_≡_, sym, ap, _∙_, subst}
+use mathlib.Core.Path.{_≡_, refl, sym, ap, _∙_, subst}
 use mathlib.Core.Logic.{_⊎_, inl, inr, ⊎-elim}
 use mathlib.Core.Bool.{Bool, true, false, false≢true}
 use mathlib.Core.List.{List, [], _∷_, _++_}
@@ -7,11 +7,14 @@ use Prim.Native.Nat.{ℕ, _<_, _≤_, _+_, _*_}
 use native.Mathlib.Omega.{arith}
 use native.Mathlib.Numerals.{add-one}
 use lib.Arith.{digits-lt}
-use lib.ListN.{length, getD, set, length-set, replicate, length-replicate, take}
+use lib.ListN.{length, getD, set, length-set, replicate, getD-replicate, length-replicate, take}
 use lib.Seq.{getD-set-same, getD-set-other, slice, slice-empty, take-suc, drop-append-le, length-take-le}
 use Rattle.numbers.proofs.Order.{tri}
 use Rattle.memory.proofs.Filling.{all-same}
+use Rattle.machine.specs.declared.Pair.{Pair}
 use Rattle.machine.specs.Meaning.Lists.{run, Each}
+use Rattle.machine.specs.Meaning.Tables.{Tables, Ok, oldMachine, newMachine}
+use Rattle.machine.specs.Working.Pairs.{stepIn}
 use Rattle.machine.proofs.Lists.{each-append, run-append, run-in}
 use Rattle.verdict.specs.Working.Marks.{Source, Image, Leading, nextOf}
 
@@ -109,3 +112,30 @@ module _ {n nv : ℕ} {next : List ℕ} (w : Leading n nv next) where
       image = image-then (λ s. run (nextOf nv next) s (slice from i list)) (λ s. getD next (s * nv + v) 0) (λ s. run (nextOf nv next) s (slice from (i + 1) list)) n marks current after
           (λ s. rw (slice-more list from i (g .start) l, ← ev, run-append)) (λ s h. run-under s (slice from i list) h (g .ok)) (g .image) m;
     }
+
+module _ (t : Tables) where
+  -- both designs run side by side
+  pub run-pair : (p : Pair) (l : List ℕ) → run (stepIn t) p l ≡ record { old = run (oldMachine t .next) (p .old) l; new = run (newMachine t .next) (p .new) l }
+  run-pair p [] = refl
+  run-pair p (v ∷ l) = run-pair (stepIn t p v) l
+
+  pub below-all : (l : List ℕ) → Each (Ok (t .sizes)) l → Each (λ v. v < t .sizes .vectors) l
+  below-all [] o = tt
+  below-all (v ∷ l) o = (o .0 .below, below-all l (o .1))
+
+-- the marks are those of the states in which one design may be after the list l, from any state below n
+pub record After (next : ℕ → ℕ → ℕ) (n : ℕ) (l : List ℕ) (marks : List Bool) : Type 0 where
+  pub back : (q : ℕ) → q < n → getD marks q false ≡ true → (s : ℕ) × (s < n) × (run next s l ≡ q)
+  pub forth : (s : ℕ) → s < n → getD marks (run next s l) false ≡ true
+
+pub after-none : (next : ℕ → ℕ → ℕ) (n : ℕ) → n ≤ 128 → After next n [] (replicate 128 true)
+after-none next n h = record { back = λ q l t. (q, l, refl); forth = λ s l. getD-replicate 128 s true false (omega arith) }
+
+pub after-more : (next : ℕ → ℕ → ℕ) (n : ℕ) (l m : List ℕ) (marks out : List Bool) → ((s : ℕ) → s < n → run next s l < n) → After next n l marks → Image (λ s. run next s m) n marks out → After next n (l ++ m) out
+after-more next n l m marks out under a i = record {
+  back = λ q h t.
+      let u = i .back q h t in
+      let w = a .back (u .state) (u .under) (u .marked) in
+      (w .0, w .1, run-append next (w .0) l m ∙ ap (λ (s : ℕ). run next s m) (w .2) ∙ u .leads);
+  forth = λ s h. rw run-append (i .forth (run next s l) (under s h) (a .forth s h));
+}

@@ -1,17 +1,16 @@
 -- What the promise of `judge` shuts out: a refusal without a number, and two answers to one call. And 16 is measured on a list that
 -- there always is.
-use mathlib.Core.Path.{_≡_, refl, sym, ap, _∙_, subst}
+use mathlib.Core.Path.{_≡_, sym, ap, _∙_}
 use mathlib.Core.List.{List}
 use Prim.Native.Nat.{ℕ, _<_, min}
 use native.Mathlib.Omega.{arith}
 use lib.ListN.{length, take}
 use lib.Seq.{length-take-le}
-use Rattle.memory.specs.Meaning.Refusals.{Free, Reply, answer, refusal}
-use Rattle.memory.specs.Meaning.Slices.{Zero, Cleared}
+use Rattle.memory.specs.Meaning.Refusals.{Free, answer, refusal}
+use Rattle.memory.specs.Meaning.Slices.{Zero}
 use Rattle.memory.proofs.Refusals.{kept-unique}
 use Rattle.memory.proofs.Slices.{zero-unique}
 use Rattle.memory.proofs.Slices.{front-unique}
-use Rattle.machine.specs.declared.Pair.{Pair}
 use Rattle.machine.specs.declared.Sizes.{Sizes}
 use Rattle.machine.specs.Meaning.Machine.{Machine}
 use Rattle.machine.specs.Meaning.Tables.{Tables, oldMachine, newMachine}
@@ -19,14 +18,26 @@ use Rattle.machine.specs.Meaning.Verdict.{Written}
 use Rattle.machine.specs.Meaning.Verdict as W
 use Rattle.machine.specs.Working.Pairs.{Closed}
 use Rattle.machine.proofs.Verdict.{written-unique, apart-unique, same-not-apart}
-use Rattle.machine.proofs.Ending.{written-exists}
+use Rattle.machine.proofs.Written.{written-exists}
 use Rattle.seek.specs.Meaning.Faults.{Fault}
 use Rattle.seek.specs.Meaning.Lent.{Lent, Left}
 use Rattle.seek.proofs.Refusals.{fault-some, good}
 use Rattle.seek.proofs.Sets.{inside}
 use Rattle.verdict.specs.declared.Verdict.{Verdict}
-use Rattle.verdict.specs.Meaning.Decision.{Decision, same, apart, reply, stepsOf, Says, Decided, ShortList, short}
+use Rattle.verdict.specs.Meaning.Decision.{Decision, same, apart, reply, stepsOf, Says, Decided, short}
 use Rattle.verdict.specs.Meaning.Promise.{JudgeFault, call, list, Judges}
+
+-- an answer is known by its reply
+reply-one : (q r : Verdict) → reply q ≡ reply r → q ≡ r
+reply-one (Verdict.Same n) (Verdict.Same k) e = cc
+reply-one (Verdict.Same n) (Verdict.Apart w k) e = cc
+reply-one (Verdict.Same n) (Verdict.Refused k) e = cc
+reply-one (Verdict.Apart v n) (Verdict.Same k) e = cc
+reply-one (Verdict.Apart v n) (Verdict.Apart w k) e = cc
+reply-one (Verdict.Apart v n) (Verdict.Refused k) e = cc
+reply-one (Verdict.Refused n) (Verdict.Same k) e = cc
+reply-one (Verdict.Refused n) (Verdict.Apart w k) e = cc
+reply-one (Verdict.Refused n) (Verdict.Refused k) e = cc
 
 -- two machines, and two list slices of one length
 module _ (m0 m1 : Machine) (z : Sizes) (closed : Closed m0 m1 z) where
@@ -92,3 +103,6 @@ module _ (t : Tables) (s : Lent) where
         kept-unique (JudgeFault t s) (Decided m0 m1 (t .sizes)) Zero (d .written) (e .written)
         (λ f x y u v. (decision-unique m0 m1 (t .sizes) (closed f) (d .written) (e .written) sizes x y u v, list-unique m0 m1 (t .sizes) (closed f) (d .written) (e .written) sizes x y u v))
         (zero-unique (d .written) (e .written) sizes) (reply q) (reply r) (j .keeps) (k .keeps)
+
+    pub verdict-unique : q ≡ r
+    verdict-unique = reply-one q r (judges-unique .0)

@@ -1,4 +1,4 @@
--- A list written into a part of a slice: behind what stands there, and before what is left.
+-- Parts of a slice: their entries, and a list that is written into one, behind what stands there and before what is left.
 use mathlib.Core.Path.{_≡_, sym, ap, _∙_, subst}
 use mathlib.Core.List.{List, _++_}
 use Prim.Native.Nat.{ℕ, _<_, _≤_, _+_, _-_}
@@ -7,11 +7,20 @@ use native.Mathlib.Decide.{decLt}
 use borrow.Rule.Slice.PartMut.{same-len-mid}
 use lib.ListN.{length, getD, take, drop, List·getD-append, List·getD-eq-default, length-drop}
 use lib.Seq.{slice, take-append-add, take-append-le, length-take-le, drop-at, getD-append-add, getD-take, getD-drop}
+use Rattle.machine.specs.Meaning.Lists.{Each}
+use Rattle.machine.proofs.Lists.{each-at}
 use Rattle.machine.specs.declared.Found.{Found}
 use Rattle.machine.specs.declared.Pair.{Pair}
 use Rattle.machine.specs.Meaning.Tables.{Tables, AlignableIn, ListIn}
 use Rattle.seek.specs.Working.Steps.{Outcome, missing, short, steps}
 use Rattle.verdict.specs.Working.Marks.{Appended, added, full}
+
+-- the entries of a part are those of the list
+pub slice-at : (Ok : ℕ → Type 0) (l : List ℕ) (from to : ℕ) → to ≤ length l → Each Ok (slice from to l) → (i : ℕ) → from ≤ i → i < to → Ok (getD l i 0)
+slice-at Ok l from to b o i c d =
+    let j : from + (i - from) ≡ i = omega arith in
+    let q : getD (slice from to l) (i - from) 0 ≡ getD l i 0 = getD-drop from (take to l) (i - from) 0 ∙ ap (λ (n : ℕ). getD (take to l) n 0) j ∙ getD-take to l i 0 d in
+    subst Ok q (each-at Ok (slice from to l) (i - from) o (omega (arith, length-drop from (take to l), length-take-le to l b)))
 
 -- the part of a list from len on, and the list with another part in its place
 abbrev part : List ℕ → ℕ → List ℕ

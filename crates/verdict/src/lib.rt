@@ -4,15 +4,14 @@
 ghost use Prim.Native.Nat.{ℕ, _+_, _*_, _<_, _≤_};
 ghost use lib.ListN.{length, getD};
 ghost use lib.Seq.{slice};
-ghost use Rattle.memory.specs.Meaning.Slices.{Zero};
+ghost use Rattle.memory.specs.Meaning.Slices.{Zero, Cleared};
 ghost use Rattle.machine.specs.Meaning.Lists.{run};
-ghost use Rattle.machine.specs.Meaning.Tables.{tables, pairs, In, oldMachine, newMachine, AlikeIn, AlignableIn};
-ghost use Rattle.machine.specs.Meaning.Verdict.{AllAlign, IsSame};
+ghost use Rattle.machine.specs.Meaning.Tables.{tables, pairs, In, AlikeIn, AlignableIn};
 ghost use Rattle.search.specs.Working.{Few, LowestBelow};
 ghost use Rattle.seek.specs.Meaning.Lent.{lent, left};
 ghost use Rattle.seek.specs.Working.Steps.{Good, MapFor, Outcome};
 ghost use Rattle.verdict.specs.Meaning.Promise.{Judges};
-ghost use Rattle.verdict.specs.Working.Marks.{nextOf, Leading, Image, OpenAt, LowestZero, Mapped, Appended, Settled};
+ghost use Rattle.verdict.specs.Working.Marks.{AllAlignIn, SameIn, nextOf, Leading, Image, OpenAt, LowestZero, Mapped, Appended, Settled};
 use machine::Found;
 use machine::Pair;
 use machine::Sizes;
@@ -39,10 +38,9 @@ pub fn judge(
 {
     let room = memory::shorter(depth.len(), reach.len());
     let n = seek::call_fault(old_next, old_out, new_next, new_out, sizes, room);
-    memory::clear_numbers(depth);
-    memory::clear_numbers(reach);
     memory::clear_bytes(list);
     if n != 0 {
+        clear_scratch(depth, reach);
         return Verdict::Refused(n);
     }
     seek::map_both(old_next, old_out, new_next, new_out, sizes, depth, reach);
@@ -56,9 +54,16 @@ pub fn judge(
         reach,
         list,
     );
+    clear_scratch(depth, reach);
+    verdict
+}
+
+// Every number of both scratch slices becomes 0.
+fn clear_scratch(depth: &mut [u16], reach: &mut [u16])
+    ensures { λ _. ⌜ Cleared (length (now (depth .entry))) (now (depth .exit)) × Cleared (length (now (reach .entry))) (now (reach .exit)) ⌝ }
+{
     memory::clear_numbers(depth);
     memory::clear_numbers(reach);
-    verdict
 }
 
 // The verdict, by the two maps, in a list slice that is all zero.
@@ -134,9 +139,9 @@ fn align(
     list: &mut [u8],
 ) -> Found
     requires { ⌜ Mapped (tables sizes (now «old_next») (now «old_out») (now «new_next») (now «new_out»)) (now depth) (now reach) ⌝ }
-    requires { ⌜ AllAlign (oldMachine (tables sizes (now «old_next») (now «old_out») (now «new_next») (now «new_out»))) (newMachine (tables sizes (now «old_next») (now «old_out») (now «new_next») (now «new_out»))) sizes ⌝ }
+    requires { ⌜ AllAlignIn (tables sizes (now «old_next») (now «old_out») (now «new_next») (now «new_out»)) ⌝ }
     requires { ⌜ Zero (now list) ⌝ }
-    ensures { λ r. ⌜ Outcome ⊥ (IsSame (oldMachine (tables sizes (now («old_next» .entry)) (now («old_out» .entry)) (now («new_next» .entry)) (now («new_out» .entry)))) (newMachine (tables sizes (now («old_next» .entry)) (now («old_out» .entry)) (now («new_next» .entry)) (now («new_out» .entry)))) sizes) (now (list .entry)) (now (list .exit)) r ⌝ }
+    ensures { λ r. ⌜ Outcome ⊥ (SameIn (tables sizes (now («old_next» .entry)) (now («old_out» .entry)) (now («new_next» .entry)) (now («new_out» .entry)))) (now (list .entry)) (now (list .exit)) r ⌝ }
 {
     let end = search::total(sizes);
     let mut old_marks = [true; 128];
@@ -173,6 +178,30 @@ fn align(
     Found::Steps(len)
 }
 
+// The lowest pair that is marked in both designs and for which the map does not hold 0, or the number of pairs.
+fn lowest_open(map: &[u16], sizes: Sizes, old_marks: [bool; 128], new_marks: [bool; 128]) -> usize
+    requires { ⌜ Few sizes ⌝ }
+    requires { ⌜ pairs sizes ≤ length (now map) ⌝ }
+    ensures { λ r. ⌜ LowestBelow (OpenAt sizes «old_marks» «new_marks» (now (map .entry))) (pairs sizes) r ⌝ }
+{
+    let end = search::total(sizes);
+    let mut i = 0;
+    while i < end {
+        let p = search::pair_at(sizes, i);
+        let old = p.old;
+        let new = p.new;
+        if old_marks[old] {
+            if new_marks[new] {
+                if map[i] != 0 {
+                    return i;
+                }
+            }
+        }
+        i += 1;
+    }
+    i
+}
+
 // Writes the list of the pair p behind the first len bytes.
 fn append(
     old_next: &[u8],
@@ -205,48 +234,6 @@ fn append(
     )
 }
 
-// The lowest pair that is marked in both designs and for which the map does not hold 0, or the number of pairs.
-fn lowest_open(map: &[u16], sizes: Sizes, old_marks: [bool; 128], new_marks: [bool; 128]) -> usize
-    requires { ⌜ Few sizes ⌝ }
-    requires { ⌜ pairs sizes ≤ length (now map) ⌝ }
-    ensures { λ r. ⌜ LowestBelow (OpenAt sizes «old_marks» «new_marks» (now (map .entry))) (pairs sizes) r ⌝ }
-{
-    let end = search::total(sizes);
-    let mut i = 0;
-    while i < end {
-        let p = search::pair_at(sizes, i);
-        let old = p.old;
-        let new = p.new;
-        if old_marks[old] {
-            if new_marks[new] {
-                if map[i] != 0 {
-                    return i;
-                }
-            }
-        }
-        i += 1;
-    }
-    i
-}
-
-// The states to which the vector v leads from the marked states.
-fn image(next: &[u8], states: usize, vectors: usize, v: usize, marks: [bool; 128]) -> [bool; 128]
-    requires { ⌜ Leading states vectors (now next) ⌝ }
-    requires { ⌜ v < vectors ⌝ }
-    ensures { λ r. ⌜ Image (λ s. getD (now (next .entry)) (s * vectors + v) 0) states marks r ⌝ }
-{
-    let mut out = [false; 128];
-    let mut s = 0;
-    while s < states {
-        if marks[s] {
-            let q = search::byte_at(next, search::cell(s, v, states, vectors));
-            out[q] = true;
-        }
-        s += 1;
-    }
-    out
-}
-
 // The states to which the vectors of list[from..to], one after the other, lead from the marked states.
 fn spread(
     next: &[u8],
@@ -272,4 +259,22 @@ fn spread(
         i += 1;
     }
     current
+}
+
+// The states to which the vector v leads from the marked states.
+fn image(next: &[u8], states: usize, vectors: usize, v: usize, marks: [bool; 128]) -> [bool; 128]
+    requires { ⌜ Leading states vectors (now next) ⌝ }
+    requires { ⌜ v < vectors ⌝ }
+    ensures { λ r. ⌜ Image (λ s. getD (now (next .entry)) (s * vectors + v) 0) states marks r ⌝ }
+{
+    let mut out = [false; 128];
+    let mut s = 0;
+    while s < states {
+        if marks[s] {
+            let q = search::byte_at(next, search::cell(s, v, states, vectors));
+            out[q] = true;
+        }
+        s += 1;
+    }
+    out
 }

@@ -1,4 +1,6 @@
 -- What the helpers of the verdict promise each other.
+--   AllAlignIn t            every pair of states of the tables t is alignable
+--   SameIn t l              Same, with the list l, is the verdict on the tables t
 --   nextOf nv next          the next state, by a table of nv vectors
 --   Leading n nv next       the table next of n states and nv vectors is long enough, and leads to states
 --   Source f n marks q      a marked state that f leads to q
@@ -19,12 +21,19 @@ use Rattle.machine.specs.declared.Found.{Found}
 use Rattle.machine.specs.declared.Pair.{Pair}
 use Rattle.machine.specs.declared.Sizes.{Sizes}
 use Rattle.machine.specs.Meaning.Tables.{Tables, pairs, at, In, oldMachine, newMachine, ListIn}
+use Rattle.machine.specs.Meaning.Verdict.{AllAlign, IsSame}
 use Rattle.machine.specs.Working.Pairs.{pairAt}
 use Rattle.memory.specs.Meaning.Refusals.{Keeps}
 use Rattle.memory.specs.Meaning.Slices.{Zero}
 use Rattle.seek.specs.Working.Steps.{Good, Both}
 use Rattle.verdict.specs.declared.Verdict.{Verdict}
 use Rattle.verdict.specs.Meaning.Decision.{reply, Decided, ShortList}
+
+abbrev pub AllAlignIn : Tables → Type 0
+AllAlignIn t = AllAlign (oldMachine t) (newMachine t) (t .sizes)
+
+abbrev pub SameIn : Tables → List ℕ → Type 0
+SameIn t l = IsSame (oldMachine t) (newMachine t) (t .sizes) l
 
 abbrev pub nextOf : ℕ → List ℕ → ℕ → ℕ → ℕ
 nextOf nv next s v = getD next (s * nv + v) 0
