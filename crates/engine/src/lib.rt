@@ -158,9 +158,17 @@ pub fn list_of(
 fn clear_lent(depth: &mut [u16], reach: &mut [u16], written: &mut [u8])
     ensures { λ _. ⌜ Emptied (lent (length (now (depth .entry))) (length (now (reach .entry))) (length (now (written .entry)))) (left (now (depth .exit)) (now (reach .exit)) (now (written .exit))) ⌝ }
 {
+    clear_scratch(depth, reach);
+    memory::clear_bytes(written);
+}
+
+// Both scratch slices become 0 throughout.
+fn clear_scratch(depth: &mut [u16], reach: &mut [u16])
+    ensures { λ _. ⌜ Cleared (length (now (depth .entry))) (now (depth .exit)) ⌝ }
+    ensures { λ _. ⌜ Cleared (length (now (reach .entry))) (now (reach .exit)) ⌝ }
+{
     memory::clear_numbers(depth);
     memory::clear_numbers(reach);
-    memory::clear_bytes(written);
 }
 
 // Marks the alike pairs in a cleared mark slice, and clears scratch.
@@ -182,8 +190,7 @@ fn mark_alike(
     let end = search::total(sizes);
     search::aligned_start(depth, end, reach);
     let count = search::mark_positive(reach, end, mark);
-    memory::clear_numbers(depth);
-    memory::clear_numbers(reach);
+    clear_scratch(depth, reach);
     MappedAlike::Marked { count, round }
 }
 
@@ -205,8 +212,7 @@ fn mark_alignable(
     seek::map_both(old_next, old_out, new_next, new_out, sizes, depth, reach);
     let end = search::total(sizes);
     let count = search::mark_positive(reach, end, mark);
-    memory::clear_numbers(depth);
-    memory::clear_numbers(reach);
+    clear_scratch(depth, reach);
     MappedAlignable::Marked(count)
 }
 
@@ -297,7 +303,6 @@ fn write_list(
         reach,
         list,
     );
-    memory::clear_numbers(depth);
-    memory::clear_numbers(reach);
+    clear_scratch(depth, reach);
     found
 }

@@ -235,14 +235,14 @@ pub fn different_vector(old_out: &[u8], new_out: &[u8], sizes: Sizes, p: Pair) -
     requires { ⌜ In sizes p ⌝ }
     ensures { λ r. ⌜ LowestBelow (Different sizes (now («old_out» .entry)) (now («new_out» .entry)) p) (sizes .vectors) r ⌝ }
 {
-    let mut v = 0;
-    while v < sizes.vectors {
-        if shows(old_out, new_out, sizes, p, v) {
-            return v;
+    let mut vector = 0;
+    while vector < sizes.vectors {
+        if shows(old_out, new_out, sizes, p, vector) {
+            return vector;
         }
-        v += 1;
+        vector += 1;
     }
-    v
+    vector
 }
 
 // The map becomes 1 where some vector shows different outputs, and 0 elsewhere.
