@@ -1,3 +1,4 @@
 pub mod Refusals
 pub mod Slices
 pub mod Filling
+pub mod Lists

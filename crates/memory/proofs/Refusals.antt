@@ -46,6 +46,12 @@ reply-unique P Answers Cleared one (answer a) (refusal m) p q = absurd (p .0 m (
 reply-unique P Answers Cleared one (refusal n) (answer b) p q = absurd (q .0 n (p .0 .applies))
 reply-unique P Answers Cleared one (refusal n) (refusal m) p q = let e = lowest-unique (p .0) (q .0) in cc
 
+-- where no number applies, the reply is an answer, and a right one
+pub answered : {A : Type 0} (P : ℕ → Type 0) (Answers : A → Type 0) (Cleared : Type 0) (r : Reply A)
+    → Free P → Keeps P Answers Cleared r → (a : A) × (r ≡ answer a) × Answers a
+answered P Answers Cleared (answer a) f k = (a, refl, k .1)
+answered P Answers Cleared (refusal n) f k = absurd (f n (k .0 .applies))
+
 -- the lower of two numbers, by cases
 pub lower-one : (a b : ℕ) → b ≡ 0 → a ≡ lowerNumber a b
 lower-one zero zero z = refl
