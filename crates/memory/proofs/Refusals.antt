@@ -37,14 +37,26 @@ lowest-unique {n = n} {m} p q = go (tri n m)
     go (inr (inl e)) = e
     go (inr (inr h)) = absurd (p .lower m h (q .applies))
 
--- where no two answers are right, no two replies keep one promise
+-- where no two answers are right, and each fixes what it leaves behind, no two replies keep one promise, and both leave the same
+pub keeps-unique : {A L : Type 0} (P : ℕ → Type 0) (Answers : L → A → Type 0) (Cleared : L → Type 0) (l k : L)
+    → ((a b : A) → Answers l a → Answers k b → (a ≡ b) × (l ≡ k)) → (Cleared l → Cleared k → l ≡ k)
+    → (r t : Reply A) → Keeps P (Answers l) (Cleared l) r → Keeps P (Answers k) (Cleared k) t → (r ≡ t) × (l ≡ k)
+keeps-unique P Answers Cleared l k one clear (answer a) (answer b) p q = let e = one a b (p .1) (q .1) in let f = e .0 in (cc, e .1)
+keeps-unique P Answers Cleared l k one clear (answer a) (refusal m) p q = absurd (p .0 m (q .0 .applies))
+keeps-unique P Answers Cleared l k one clear (refusal n) (answer b) p q = absurd (q .0 n (p .0 .applies))
+keeps-unique P Answers Cleared l k one clear (refusal n) (refusal m) p q = let e = lowest-unique (p .0) (q .0) in (cc, clear (p .1) (q .1))
+
 pub reply-unique : {A : Type 0} (P : ℕ → Type 0) (Answers : A → Type 0) (Cleared : Type 0)
     → ((a b : A) → Answers a → Answers b → a ≡ b)
     → (r t : Reply A) → Keeps P Answers Cleared r → Keeps P Answers Cleared t → r ≡ t
-reply-unique P Answers Cleared one (answer a) (answer b) p q = let e = one a b (p .1) (q .1) in cc
-reply-unique P Answers Cleared one (answer a) (refusal m) p q = absurd (p .0 m (q .0 .applies))
-reply-unique P Answers Cleared one (refusal n) (answer b) p q = absurd (q .0 n (p .0 .applies))
-reply-unique P Answers Cleared one (refusal n) (refusal m) p q = let e = lowest-unique (p .0) (q .0) in cc
+reply-unique P Answers Cleared one r t p q =
+    keeps-unique {L = Unit {0}} P (λ _. Answers) (λ _. Cleared) tt tt (λ a b x y. (one a b x y, refl)) (λ x y. refl) r t p q .0
+
+-- a promise over other conditions that say the same
+pub keeps-map : {A : Type 0} {P Q : ℕ → Type 0} {Answers Others : A → Type 0} {Cleared Bare : Type 0} → ((n : ℕ) → P n → Q n) → ((n : ℕ) → Q n → P n)
+    → ((a : A) → Answers a → Others a) → (Cleared → Bare) → (r : Reply A) → Keeps P Answers Cleared r → Keeps Q Others Bare r
+keeps-map to from says clear (answer a) p = (λ n q. p .0 n (from n q), says a (p .1))
+keeps-map to from says clear (refusal n) p = (record { applies = to n (p .0 .applies); lower = λ m h q. p .0 .lower m h (from m q) }, clear (p .1))
 
 -- where no number applies, the reply is an answer, and a right one
 pub answered : {A : Type 0} (P : ℕ → Type 0) (Answers : A → Type 0) (Cleared : Type 0) (r : Reply A)
@@ -93,3 +105,11 @@ module _ (P Q R : ℕ → Type 0) (one : (n : ℕ) → P n → R n) (two : (n : 
   lowest-either zero (suc b) p q = some-number (λ e. omega arith) (right-only (p .none refl) (q .some (λ e. omega arith)))
   lowest-either (suc a) zero p q = some-number (λ e. omega arith) (left-only (p .some (λ e. omega arith)) (q .none refl))
   lowest-either (suc a) (suc b) p q = some-number (λ e. omega arith) (lower-of (suc a) (suc b) (p .some (λ e. omega arith)) (q .some (λ e. omega arith)))
+
+-- of the numbers of R those below k are P's, which are looked for first
+module _ (P R : ℕ → Type 0) (k : ℕ) (one : (n : ℕ) → P n → R n) (early : (n : ℕ) → R n → n < k → P n) where
+  pub lowest-early : {n : ℕ} → n < k → Lowest P n → Lowest R n
+  lowest-early {n} h l = record { applies = one n (l .applies); lower = λ m q r. l .lower m q (early m r (omega arith)) }
+
+  pub lowest-late : Free P → R k → Lowest R k
+  lowest-late f r = record { applies = r; lower = λ m q g. f m (early m g q) }

@@ -112,10 +112,10 @@ pub fn fault_of(d: Design) -> u8
 pub fn net_at(nets: &[u16], k: usize) -> usize
     ensures { λ r. ⌜ r ≡ getD (now (nets .entry)) k 0 ⌝ }
 {
-    if k < nets.len() {
-        return nets[k] as usize;
+    if nets.len() <= k {
+        return 0;
     }
-    0
+    nets[k] as usize
 }
 
 pub fn kind_of(g: Gate) -> u16

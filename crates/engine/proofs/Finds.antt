@@ -1,0 +1,99 @@
+-- What a call for one pair finds, and the lowest number that applies to it.
+use Prim.Native.Nat.{ℕ, _<_, _≤_, min}
+use mathlib.Core.Path.{_≡_, ap, _∙_}
+use mathlib.Core.List.{List}
+use native.Mathlib.Omega.{arith}
+use lib.ListN.{length, take}
+use lib.Seq.{length-take-le}
+use Rattle.numbers.proofs.Order.{not-lt, lt-of-not-le}
+use Rattle.memory.specs.Meaning.Refusals.{Free, Lowest, LowestOrNone, Keeps}
+use Rattle.memory.specs.Meaning.Slices.{Zero}
+use Rattle.memory.proofs.Refusals.{some-number, no-number}
+use Rattle.machine.specs.declared.Found.{Found}
+use Rattle.machine.specs.declared.Pair.{Pair}
+use Rattle.machine.specs.Meaning.Tables.{Tables, In}
+use Rattle.seek.specs.Meaning.Faults.{Fault}
+use Rattle.seek.specs.Working.Steps.{Outcome, missing, short, steps}
+use Rattle.seek.proofs.Refusals.{fault-most}
+use Rattle.engine.specs.Meaning.Lent.{Lent}
+use Rattle.engine.specs.Meaning.Pairs.{foundReply, StateFault, PairFault, Listed}
+
+-- 11 to 14
+module _ {t : Tables} {room : ℕ} {p : Pair} where
+  pub state-most : {n : ℕ} → StateFault t room p n → n ≤ 14
+  state-most (StateFault.call f) = omega (arith, fault-most f)
+  state-most (StateFault.old-state h) = omega arith
+  state-most (StateFault.new-state h) = omega arith
+
+  pub at-call : {n : ℕ} → (n ≡ 0 → ⊥) → LowestOrNone (Fault t room) n → LowestOrNone (StateFault t room p) n
+  at-call {n} e l = some-number e (record { applies = StateFault.call (l .some e .applies); lower = λ m h f. go f h })
+    where
+      go : {m : ℕ} → StateFault t room p m → m < n → ⊥
+      go (StateFault.call f) h = l .some e .lower _ h f
+      go (StateFault.old-state o) h = omega (arith, fault-most (l .some e .applies))
+      go (StateFault.new-state o) h = omega (arith, fault-most (l .some e .applies))
+
+  module _ (none : Free (Fault t room)) where
+    pub at-14 : StateFault t room p 14 → LowestOrNone (StateFault t room p) 14
+    at-14 s = some-number (λ e. omega arith) (record { applies = s; lower = λ m h f. go f h })
+      where
+        go : {m : ℕ} → StateFault t room p m → m < 14 → ⊥
+        go (StateFault.call f) h = none _ f
+        go (StateFault.old-state o) h = omega arith
+        go (StateFault.new-state o) h = omega arith
+
+    pub at-none : In (t .sizes) p → LowestOrNone (StateFault t room p) 0
+    at-none i = no-number (λ m f. go f)
+      where
+        go : {m : ℕ} → StateFault t room p m → ⊥
+        go (StateFault.call f) = none _ f
+        go (StateFault.old-state o) = not-lt o (i .in-old)
+        go (StateFault.new-state o) = not-lt o (i .in-new)
+
+  -- a call to which none of them applies
+  module _ (free : Free (StateFault t room p)) where
+    pub free-call : Free (Fault t room)
+    free-call m f = free m (StateFault.call f)
+
+    pub free-in : In (t .sizes) p
+    free-in = record { in-old = lt-of-not-le (λ h. free 14 (StateFault.old-state h)); in-new = lt-of-not-le (λ h. free 14 (StateFault.new-state h)) }
+
+-- 15 and 16 come after them
+module _ (t : Tables) (s : Lent) (p : Pair) (None : Type 0) (Sought : List ℕ → Type 0) where
+  abbrev Wrong : ℕ → Type 0
+  Wrong n = PairFault t s p None Sought n
+
+  pub lowest-state : {n : ℕ} → Lowest (StateFault t (min (s .depth) (s .reach)) p) n → Lowest Wrong n
+  lowest-state {n} l = record { applies = PairFault.state (l .applies); lower = λ m h f. go f h }
+    where
+      go : {m : ℕ} → Wrong m → m < n → ⊥
+      go (PairFault.state f) h = l .lower _ h f
+      go (PairFault.none o) h = omega (arith, state-most (l .applies))
+      go (PairFault.short-list l′ o k) h = omega (arith, state-most (l .applies))
+
+  module _ (free : Free (StateFault t (min (s .depth) (s .reach)) p)) where
+    past-14 : {m : ℕ} → Wrong m → 15 ≤ m
+    past-14 (PairFault.state f) = absurd (free _ f)
+    past-14 (PairFault.none o) = omega arith
+    past-14 (PairFault.short-list l o h) = omega arith
+
+    past-15 : (None → ⊥) → {m : ℕ} → Wrong m → 16 ≤ m
+    past-15 some (PairFault.state f) = absurd (free _ f)
+    past-15 some (PairFault.none o) = absurd (some o)
+    past-15 some (PairFault.short-list l o h) = omega arith
+
+    past-16 : (None → ⊥) → ((l : List ℕ) → Sought l → length l ≤ s .written) → {m : ℕ} → Wrong m → ⊥
+    past-16 some fits (PairFault.state f) = free _ f
+    past-16 some fits (PairFault.none o) = some o
+    past-16 some fits (PairFault.short-list l o h) = not-lt (fits l o) h
+
+    -- what is sought is one list, and the slice was cleared
+    pub keeps-outcome : ((a b : List ℕ) → Sought a → Sought b → a ≡ b) → {list list′ : List ℕ} {r : Found} → Outcome None Sought list list′ r
+        → length list ≡ s .written → length list′ ≡ s .written → Zero list → Keeps Wrong (Listed Sought list′) (Zero list′) (foundReply r)
+    keeps-outcome unique (missing none q) e e′ z = (record { applies = PairFault.none none; lower = λ m h f. not-lt (past-14 f) h }, rw q z)
+    keeps-outcome unique (short some l has h q) e e′ z =
+        (record { applies = PairFault.short-list l has (omega arith); lower = λ m h f. not-lt (past-15 some f) h }, rw q z)
+    keeps-outcome unique {list} {list′} (steps some n fits has same) e e′ z = (
+      λ m f. past-16 some (λ l o. omega (arith, ap length (unique l (take n list′) o has), length-take-le n list′ (omega arith))) f,
+      record { sought = has; fits = omega arith; beyond = λ i h. same i h ∙ z i (omega arith) },
+    )

@@ -1,0 +1,67 @@
+-- `map_alignable`: turned away with cleared slices, or what `mark_alignable` leaves.
+use borrow.Author.Needs.{needs}
+use Rattle.engine.proofs.Clearing.{tidy-of}
+use Rattle.engine.proofs.map_alignable.Statement.{statement}
+use Rattle.engine.proofs.map_alignable.Tie as tie
+
+shorter-requires : tie.Need-shorter-requires
+shorter-requires c κs = search needs
+
+shorter-requires-2 : tie.Need-shorter-requires-2
+shorter-requires-2 c κs = search needs
+
+call-fault-requires : tie.Need-call-fault-requires
+call-fault-requires c κs = search needs
+
+clear-lent-requires : tie.Need-clear-lent-requires
+clear-lent-requires c κs = search needs
+
+same-length : tie.Need-same-length
+same-length c = search needs
+
+same-length-2 : tie.Need-same-length-2
+same-length-2 c = search needs
+
+same-length-3 : tie.Need-same-length-3
+same-length-3 c = search needs
+
+returns : tie.Need-returns
+returns c = record {
+  keeps = ((rw (c .before .before .before .before .before .before .before .before .before .before .before .before .shorter2 .ensures, c .before .before .before .before .before .before .before .before .before .before .before .before .before .shorter .ensures) at (c .before .before .before .before .before .before .before .before .before .before .before .call-fault .ensures)) .some (c .if1 .taken), c .before .before .before .before .before .before .before .clear-lent .ensures .written .zero);
+  tidy = tidy-of (c .before .before .before .before .before .before .before .clear-lent .ensures);
+}
+
+mark-alignable-requires : tie.Need-mark-alignable-requires
+mark-alignable-requires c κs =
+    let e = c .before .before .before .before .before .before .before .before .before .before .clear-lent .ensures in
+    (rw (e .depth .size, e .reach .size, e .written .size) ((rw (c .before .before .before .before .before .before .before .before .before .before .before .before .before .before .before .shorter2 .ensures, c .before .before .before .before .before .before .before .before .before .before .before .before .before .before .before .before .shorter .ensures) at (c .before .before .before .before .before .before .before .before .before .before .before .before .before .before .call-fault .ensures)) .none (c .before .before .before .if1 .left)), e .written .zero)
+
+same-length-4 : tie.Need-same-length-4
+same-length-4 c = search needs
+
+same-length-5 : tie.Need-same-length-5
+same-length-5 c = search needs
+
+same-length-6 : tie.Need-same-length-6
+same-length-6 c = search needs
+
+returns-2 : tie.Need-returns-2
+returns-2 c = let e = c .before .before .before .before .before .before .before .before .before .before .before .before .before .before .before .before .before .clear-lent .ensures in rw (e .depth .size, e .reach .size, e .written .size) at (c .before .before .before .before .before .before .mark-alignable .ensures)
+
+pub map-alignable-spec : {M : Type 1} → statement M
+map-alignable-spec =
+    tie.close
+    (tie.spec
+    shorter-requires
+    shorter-requires-2
+    call-fault-requires
+    clear-lent-requires
+    same-length
+    same-length-2
+    same-length-3
+    returns
+    mark-alignable-requires
+    same-length-4
+    same-length-5
+    same-length-6
+    returns-2)

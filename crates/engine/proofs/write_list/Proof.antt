@@ -1,0 +1,41 @@
+-- `write_list`: what is found by the map to alike pairs.
+use borrow.Author.Needs.{needs}
+use Rattle.engine.proofs.write_list.Statement.{statement}
+use Rattle.engine.proofs.write_list.Tie as tie
+
+map-both-requires : tie.Need-map-both-requires
+map-both-requires c κs = search needs
+
+find-list-requires : tie.Need-find-list-requires
+find-list-requires c κs = (c .before .before .before .before .before .before .before .before .before .before .before .before .before .before .before .before .pre .0, (search needs, (c .before .before .before .before .before .before .map-both .ensures .alike, c .before .before .before .before .before .before .before .before .before .before .before .before .before .before .before .before .pre .1 .1)))
+
+clear-numbers-requires : tie.Need-clear-numbers-requires
+clear-numbers-requires c κs = search needs
+
+clear-numbers-requires-2 : tie.Need-clear-numbers-requires-2
+clear-numbers-requires-2 c κs = search needs
+
+same-length : tie.Need-same-length
+same-length c = search needs
+
+same-length-2 : tie.Need-same-length-2
+same-length-2 c = search needs
+
+same-length-3 : tie.Need-same-length-3
+same-length-3 c = search needs
+
+returns : tie.Need-returns
+returns c = (c .before .before .before .before .before .before .before .before .before .before .find-list .ensures, (search needs, search needs))
+
+pub write-list-spec : {M : Type 1} → statement M
+write-list-spec =
+    tie.close
+    (tie.spec
+    map-both-requires
+    find-list-requires
+    clear-numbers-requires
+    clear-numbers-requires-2
+    same-length
+    same-length-2
+    same-length-3
+    returns)

@@ -1,0 +1,4 @@
+-- What has to be believed: the definitions that public contracts cite.
+pub mod Lent
+pub mod Maps
+pub mod Pairs

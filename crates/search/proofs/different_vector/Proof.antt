@@ -1,0 +1,52 @@
+-- `different_vector`: a scan over the vectors.
+use Prim.Native.Nat.{_-_}
+use borrow.Author.Needs.{needs}
+use Rattle.search.specs.Working.{NoneBelow, Different}
+use Rattle.search.proofs.Cells.{scan-start, scan-more, scan-found, scan-none}
+use Rattle.search.proofs.different_vector.Statement.{statement}
+use Rattle.search.proofs.different_vector.Tie as tie
+
+abbrev Inv-loop : tie.InvT-loop
+Inv-loop old-out new-out sizes p v₀ v = NoneBelow (Different sizes old-out new-out p) (sizes .vectors) v
+
+abbrev μ-loop : tie.MeasureT-loop
+μ-loop old-out new-out sizes p v₀ v = sizes .vectors - v
+
+loop-holds : tie.Need-loop-holds Inv-loop μ-loop
+loop-holds c = scan-start
+
+shows-requires : tie.Need-shows-requires Inv-loop μ-loop
+shows-requires c κs =
+    (c .before .before .before .before .before .pre .0, (c .before .before .before .before .before .pre .1, c .if1 .taken))
+
+returns : tie.Need-returns Inv-loop μ-loop
+returns c =
+    scan-found (c .before .before .before .before .loop .inv) (c .before .before .if1 .taken) (rw (c .if2 .taken) at (c .before .shows .ensures))
+
+add-v : tie.Need-add-v Inv-loop μ-loop
+add-v c = search needs
+
+loop-less : tie.Need-loop-less Inv-loop μ-loop
+loop-less c = search needs
+
+loop-again : tie.Need-loop-again Inv-loop μ-loop
+loop-again c =
+    scan-more (c .before .before .before .before .loop .inv) (c .before .before .if1 .taken) (rw (c .if2 .left) at (c .before .shows .ensures))
+
+returns-2 : tie.Need-returns-2 Inv-loop μ-loop
+returns-2 c =
+    scan-none (c .before .before .loop .inv) (c .if1 .left)
+
+pub different-vector-spec : {M : Type 1} → statement M
+different-vector-spec =
+    tie.close
+    (tie.spec
+    Inv-loop
+    μ-loop
+    loop-holds
+    shows-requires
+    returns
+    add-v
+    loop-less
+    loop-again
+    returns-2)

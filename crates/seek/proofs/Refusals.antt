@@ -1,0 +1,114 @@
+-- The lowest of 11, 12 and 13 that applies, and what a call that is not refused may rely on.
+use Prim.Native.Nat.{ℕ, _<_, _≤_, _*_}
+use mathlib.Core.List.{List}
+use native.Mathlib.Omega.{arith}
+use native.Mathlib.Decide.{decLt}
+use lib.ListN.{getD}
+use Rattle.numbers.proofs.Order.{not-lt, le-of-not-lt}
+use Rattle.memory.specs.Meaning.Refusals.{Free, LowestOrNone}
+use Rattle.memory.proofs.Refusals.{some-number, no-number}
+use Rattle.machine.specs.declared.Sizes.{Sizes}
+use Rattle.machine.specs.Meaning.Tables.{Tables, pairs}
+use Rattle.search.specs.Working.{Few}
+use Rattle.seek.specs.Meaning.Faults.{OutOfRange, TooShort, LeadsOut, leads, Fault}
+use Rattle.seek.specs.Working.Steps.{InRange, LongEnough, Stays, Good}
+
+range-no : {z : Sizes} → InRange z → OutOfRange z → ⊥
+range-no r (OutOfRange.old-none e) = omega (arith, r .some-old)
+range-no r (OutOfRange.old-many h) = omega (arith, r .few .few-old)
+range-no r (OutOfRange.new-none e) = omega (arith, r .some-new)
+range-no r (OutOfRange.new-many h) = omega (arith, r .few .few-new)
+range-no r (OutOfRange.vectors-none e) = omega (arith, r .some-vectors)
+range-no r (OutOfRange.vectors-many h) = omega (arith, r .few .few-vectors)
+
+long-no : {t : Tables} {room : ℕ} → LongEnough t room → TooShort t room → ⊥
+long-no r (TooShort.old-next h) = not-lt (r .old-next) h
+long-no r (TooShort.old-out h) = not-lt (r .old-out) h
+long-no r (TooShort.new-next h) = not-lt (r .new-next) h
+long-no r (TooShort.new-out h) = not-lt (r .new-out) h
+long-no r (TooShort.lent h) = not-lt (r .lent) h
+
+stays-no : {s v : ℕ} {n : List ℕ} → Stays s v n → LeadsOut s v n → ⊥
+stays-no r (leads i h l) = not-lt l (r .stays i h)
+
+module _ {t : Tables} {room : ℕ} where
+  pub fault-some : {m : ℕ} → Fault t room m → 11 ≤ m
+  fault-some (Fault.range o) = omega arith
+  fault-some (Fault.short o) = omega arith
+  fault-some (Fault.old-leads o) = omega arith
+  fault-some (Fault.new-leads o) = omega arith
+
+  pub fault-most : {m : ℕ} → Fault t room m → m ≤ 13
+  fault-most (Fault.range o) = omega arith
+  fault-most (Fault.short o) = omega arith
+  fault-most (Fault.old-leads o) = omega arith
+  fault-most (Fault.new-leads o) = omega arith
+
+  past-11 : InRange (t .sizes) → {m : ℕ} → Fault t room m → 12 ≤ m
+  past-11 r (Fault.range o) = absurd (range-no r o)
+  past-11 r (Fault.short o) = omega arith
+  past-11 r (Fault.old-leads o) = omega arith
+  past-11 r (Fault.new-leads o) = omega arith
+
+  past-12 : InRange (t .sizes) → LongEnough t room → {m : ℕ} → Fault t room m → 13 ≤ m
+  past-12 r l (Fault.range o) = absurd (range-no r o)
+  past-12 r l (Fault.short o) = absurd (long-no l o)
+  past-12 r l (Fault.old-leads o) = omega arith
+  past-12 r l (Fault.new-leads o) = omega arith
+
+  -- n applies, and what applies is at least n
+  lowest : {n : ℕ} → 0 < n → Fault t room n → ((m : ℕ) → Fault t room m → n ≤ m) → LowestOrNone (Fault t room) n
+  lowest p f past = some-number (λ e. omega arith) (record { applies = f; lower = λ m h g. not-lt (past m g) h })
+
+  pub at-11 : OutOfRange (t .sizes) → LowestOrNone (Fault t room) 11
+  at-11 o = lowest (omega arith) (Fault.range o) (λ m f. fault-some f)
+
+  pub at-12 : InRange (t .sizes) → TooShort t room → LowestOrNone (Fault t room) 12
+  at-12 r o = lowest (omega arith) (Fault.short o) (λ m f. past-11 r f)
+
+  pub at-13 : InRange (t .sizes) → LongEnough t room → Fault t room 13 → LowestOrNone (Fault t room) 13
+  at-13 r l o = lowest (omega arith) o (λ m f. past-12 r l f)
+
+  pub at-none : InRange (t .sizes) → LongEnough t room → Stays (t .sizes .old) (t .sizes .vectors) (t .old-next) → Stays (t .sizes .new) (t .sizes .vectors) (t .new-next) → LowestOrNone (Fault t room) 0
+  at-none r l a b = no-number (λ m f. go f)
+    where
+      go : {m : ℕ} → Fault t room m → ⊥
+      go (Fault.range o) = range-no r o
+      go (Fault.short o) = long-no l o
+      go (Fault.old-leads o) = stays-no a o
+      go (Fault.new-leads o) = stays-no b o
+
+  -- a call to which no number applies
+  module _ (none : Free (Fault t room)) where
+    few : Few (t .sizes)
+    few = record {
+      few-old = le-of-not-lt (λ h. none 11 (Fault.range (OutOfRange.old-many h)));
+      few-new = le-of-not-lt (λ h. none 11 (Fault.range (OutOfRange.new-many h)));
+      few-vectors = le-of-not-lt (λ h. none 11 (Fault.range (OutOfRange.vectors-many h)));
+    }
+
+    pub room-enough : pairs (t .sizes) ≤ room
+    room-enough = le-of-not-lt (λ h. none 12 (Fault.short (TooShort.lent h)))
+
+    stays : {s v : ℕ} {n : List ℕ} → (LeadsOut s v n → ⊥) → (i : ℕ) → i < s * v → getD n i 0 < s
+    stays {s} {v} {n} f i h = go (decLt (getD n i 0) s)
+      where
+        go : Dec (getD n i 0 < s) → getD n i 0 < s
+        go (yes a) = a
+        go (no a) = absurd (f (leads i h (omega arith)))
+
+    pub good : Good t
+    good = record {
+      nexts = record {
+        few = few;
+        long-old = le-of-not-lt (λ h. none 12 (Fault.short (TooShort.old-next h)));
+        long-new = le-of-not-lt (λ h. none 12 (Fault.short (TooShort.new-next h)));
+        next-old = stays (λ o. none 13 (Fault.old-leads o));
+        next-new = stays (λ o. none 13 (Fault.new-leads o));
+      };
+      outs = record {
+        few = few;
+        long-old = le-of-not-lt (λ h. none 12 (Fault.short (TooShort.old-out h)));
+        long-new = le-of-not-lt (λ h. none 12 (Fault.short (TooShort.new-out h)));
+      };
+    }

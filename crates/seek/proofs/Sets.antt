@@ -1,0 +1,63 @@
+-- What the maps mean: alike and alignable pairs.
+use mathlib.Core.Path.{_≡_}
+use mathlib.Core.Logic.{_⊎_, ⊎-elim}
+use mathlib.Core.List.{List}
+use Prim.Native.Nat.{ℕ, _≤_}
+use native.Mathlib.Omega.{arith}
+use lib.ListN.{getD}
+use Rattle.machine.specs.declared.Pair.{Pair}
+use Rattle.machine.specs.declared.Sizes.{Sizes}
+use Rattle.numbers.proofs.Order.{zero-or}
+use Rattle.machine.specs.Meaning.Tables.{Tables, pairs, number, at, In, Ok, Flag, holds, fails, oldMachine, newMachine, AlikeIn}
+use Rattle.machine.specs.Working.Pairs.{DiffersIn, stepIn}
+use Rattle.machine.proofs.Lists.{complete-there, still-first-there}
+use Rattle.machine.proofs.Pairs.{alike-no-list, alike-of-no-list}
+use Rattle.search.specs.Working.{Flagged, Ones, DiffersAt, Searched}
+use Rattle.search.proofs.Cells.{closed, number-in, pair-number}
+use Rattle.seek.specs.Working.Steps.{Good, MapFor, MapOf}
+
+pub flag-one : {P : Type 0} {x : ℕ} → Flag P x → x ≤ 1
+flag-one (holds e p) = omega arith
+flag-one (fails e n) = omega arith
+
+pub flag-holds : {P : Type 0} {x : ℕ} → Flag P x → x ≡ 1 → P
+flag-holds (holds e p) q = p
+flag-holds (fails e n) q = absurd (omega arith)
+
+pub flag-is : {P : Type 0} {x : ℕ} → Flag P x → P → x ≡ 1
+flag-is (holds e p) q = e
+flag-is (fails e n) q = absurd (n q)
+
+module _ (t : Tables) (g : Good t) where
+  abbrev z : Sizes
+  z = t .sizes
+
+  pub inside : (p : Pair) (v : ℕ) → In z p → Ok z v → In z (stepIn t p v)
+  inside = closed z (g .nexts)
+
+  -- a search from a list that was filled where P holds is a map for the set that P describes
+  pub map-of : {P : ℕ → Type 0} {Goal : Pair → Type 0} {d d₀ d′ : List ℕ} {r : ℕ} → Flagged P (pairs z) d d₀ → ((p : Pair) → In z p → P (number z p) → Goal p) → ((p : Pair) → In z p → Goal p → P (number z p))
+      → Searched z (t .old-next) (t .new-next) d₀ d′ r → MapOf t Goal d′ r
+  map-of {P} {Goal} {d} {d₀} {d′} {r} f a b s = record {
+    complete = record { map = complete-there (stepIn t) (Ok z) (In z) inside (Ones z d₀) Goal there back (at z d′) (s .complete) };
+    first = still-first-there (stepIn t) (Ok z) (In z) inside (Ones z d₀) Goal there back r (s .first);
+  }
+    where
+      there : (p : Pair) → In z p → Ones z d₀ p → Goal p
+      there p i e = a p i (flag-holds (f .each (number z p) (number-in z p i)) e)
+
+      back : (p : Pair) → In z p → Goal p → Ones z d₀ p
+      back p i o = flag-is (f .each (number z p) (number-in z p i)) (b p i o)
+
+  pub map-apart : {d d₀ d′ : List ℕ} {r : ℕ} → Flagged (DiffersAt z (t .old-out) (t .new-out)) (pairs z) d d₀ → Searched z (t .old-next) (t .new-next) d₀ d′ r → MapOf t (DiffersIn t) d′ r
+  map-apart f s = map-of f (λ p i o. rw (pair-number z p i) at o) (λ p i o. rw (pair-number z p i) o) s
+
+  module _ {d : List ℕ} (m : MapFor t (DiffersIn t) d) where
+    pub alike-of-zero : (p : Pair) → In z p → at z d p ≡ 0 → AlikeIn t p
+    alike-of-zero p i e = alike-of-no-list (oldMachine t) (newMachine t) (Ok z) p (m .map .none p i e)
+
+    pub zero-of-alike : (p : Pair) → In z p → AlikeIn t p → at z d p ≡ 0
+    zero-of-alike p i a = ⊎-elim (λ e. e) (λ q. let y = m .map .dist p i (q .0) (q .1) in absurd (alike-no-list (oldMachine t) (newMachine t) (Ok z) p (y .list) a (y .leads))) (zero-or (at z d p))
+
+    pub map-alike : {e e₀ e′ : List ℕ} {n : ℕ} → Flagged (λ q. getD d q 0 ≡ 0) (pairs z) e e₀ → Searched z (t .old-next) (t .new-next) e₀ e′ n → MapOf t (AlikeIn t) e′ n
+    map-alike f s = map-of f (λ p i o. alike-of-zero p i o) (λ p i o. zero-of-alike p i o) s

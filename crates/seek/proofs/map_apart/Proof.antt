@@ -1,0 +1,23 @@
+-- `map_apart`: the search from the pairs that show different outputs.
+use native.Mathlib.Omega.{arith}
+use Rattle.seek.proofs.Sets.{map-apart, flag-one}
+use borrow.Author.Needs.{needs}
+use Rattle.seek.proofs.map_apart.Statement.{statement}
+use Rattle.seek.proofs.map_apart.Tie as tie
+
+differ-requires : tie.Need-differ-requires
+differ-requires c κs = search needs
+
+search-requires : tie.Need-search-requires
+search-requires c κs =
+    (record { nexts = c .before .before .before .before .before .before .before .before .before .before .pre .0 .nexts; room = omega (arith, c .before .before .before .before .before .before .before .before .before .before .pre .1, c .before .before .before .differ .ensures .long) }, λ q h. flag-one (c .before .before .before .differ .ensures .each q h))
+
+same-length : tie.Need-same-length
+same-length c = search needs
+
+returns : tie.Need-returns
+returns c =
+    map-apart _ (c .before .before .before .before .before .before .before .before .before .before .before .before .before .pre .0) (c .before .before .before .before .before .before .differ .ensures) (c .before .before .search .ensures)
+
+pub map-apart-spec : {M : Type 1} → statement M
+map-apart-spec = tie.close (tie.spec differ-requires search-requires same-length returns)

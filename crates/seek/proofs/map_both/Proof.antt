@@ -1,0 +1,41 @@
+-- `map_both`: the search from the zeros of the first map.
+use native.Mathlib.Omega.{arith}
+use Rattle.seek.proofs.Sets.{map-alike, flag-one}
+use borrow.Author.Needs.{needs}
+use Rattle.seek.proofs.map_both.Statement.{statement}
+use Rattle.seek.proofs.map_both.Tie as tie
+
+map-apart-requires : tie.Need-map-apart-requires
+map-apart-requires c κs = search needs
+
+total-requires : tie.Need-total-requires
+total-requires c κs = search needs
+
+aligned-start-requires : tie.Need-aligned-start-requires
+aligned-start-requires c κs = search needs
+
+search-requires : tie.Need-search-requires
+search-requires c κs =
+    (record { nexts = c .before .before .before .before .before .before .before .before .before .before .before .before .before .before .before .before .before .pre .0 .nexts; room = omega (arith, c .before .before .before .before .before .before .before .before .before .before .before .before .before .before .before .before .before .pre .1 .1, c .before .before .before .aligned-start .ensures .long) }, λ q h. flag-one (c .before .before .before .aligned-start .ensures .each q (omega (arith, c .before .before .before .before .before .before .total .ensures .0))))
+
+same-length : tie.Need-same-length
+same-length c = search needs
+
+same-length-2 : tie.Need-same-length-2
+same-length-2 c = search needs
+
+returns : tie.Need-returns
+returns c =
+    record { apart = c .before .before .before .before .before .before .before .before .before .before .before .before .map-apart .ensures .complete; alike = map-alike _ (c .before .before .before .before .before .before .before .before .before .before .before .before .before .before .before .before .before .before .before .before .pre .0) (c .before .before .before .before .before .before .before .before .before .before .before .before .map-apart .ensures .complete) (rw (c .before .before .before .before .before .before .before .before .before .total .ensures .0) at (c .before .before .before .before .before .before .aligned-start .ensures)) (c .before .before .search .ensures) .complete }
+
+pub map-both-spec : {M : Type 1} → statement M
+map-both-spec =
+    tie.close
+    (tie.spec
+    map-apart-requires
+    total-requires
+    aligned-start-requires
+    search-requires
+    same-length
+    same-length-2
+    returns)

@@ -1,0 +1,40 @@
+-- Who is turned away by the tables and the slices that a call is lent.
+--   OutOfRange z         11
+--   TooShort t room      12
+--   LeadsOut s v next    13, of the table next of s states and v vectors
+--   Fault t room n       number n of document 01's table applies to a call that is lent the tables t; of the slices with one entry a
+--                        pair (marks and scratch) the shortest has room entries
+use mathlib.Core.Path.{_≡_}
+use mathlib.Core.List.{List}
+use Prim.Native.Nat.{ℕ, _<_, _≤_, _*_}
+use lib.ListN.{length, getD}
+use Rattle.machine.specs.declared.Sizes.{Sizes}
+use Rattle.machine.specs.Meaning.Tables.{Tables, pairs}
+
+-- "S states (1..128), V vectors (1..64 ..)"
+pub data OutOfRange (z : Sizes) : Type 0 where
+  old-none : z .old ≡ 0 → OutOfRange z
+  old-many : 128 < z .old → OutOfRange z
+  new-none : z .new ≡ 0 → OutOfRange z
+  new-many : 128 < z .new → OutOfRange z
+  vectors-none : z .vectors ≡ 0 → OutOfRange z
+  vectors-many : 64 < z .vectors → OutOfRange z
+
+-- "two table slices a design, S × V bytes each; a mark slice of one byte a pair .. two scratch slices of one 16-bit number a pair"
+pub data TooShort (t : Tables) (room : ℕ) : Type 0 where
+  old-next : length (t .old-next) < t .sizes .old * t .sizes .vectors → TooShort t room
+  old-out : length (t .old-out) < t .sizes .old * t .sizes .vectors → TooShort t room
+  new-next : length (t .new-next) < t .sizes .new * t .sizes .vectors → TooShort t room
+  new-out : length (t .new-out) < t .sizes .new * t .sizes .vectors → TooShort t room
+  lent : room < pairs (t .sizes) → TooShort t room
+
+-- "a table's next state not below S"
+pub data LeadsOut (states vectors : ℕ) (next : List ℕ) : Type 0 where
+  leads : (i : ℕ) → i < states * vectors → states ≤ getD next i 0 → LeadsOut states vectors next
+
+-- "11 S or V out of range; 12 a table, mark, scratch .. slice too short; 13 a table's next state not below S"
+pub data Fault (t : Tables) (room : ℕ) : ℕ → Type 0 where
+  range : OutOfRange (t .sizes) → Fault t room 11
+  short : TooShort t room → Fault t room 12
+  old-leads : LeadsOut (t .sizes .old) (t .sizes .vectors) (t .old-next) → Fault t room 13
+  new-leads : LeadsOut (t .sizes .new) (t .sizes .vectors) (t .new-next) → Fault t room 13

@@ -1,0 +1,55 @@
+-- What the helpers over two tables promise each other.
+--   InRange, LongEnough, Stays     11, 12 and 13 do not apply
+--   Good t                         the tables t are accepted
+--   MapFor t G d                   the map d is right for the set G
+--   MapOf t G d r                  and r is the number of the first round that adds nothing
+--   Both t depth reach             depth is the map to pairs that show different outputs, and reach the map to alike pairs
+--   Outcome Absent Sought l l′ r   what a helper that seeks a list leaves in the slice l′, which held l
+use mathlib.Core.Path.{_≡_}
+use mathlib.Core.List.{List}
+use Prim.Native.Nat.{ℕ, _<_, _≤_, _*_}
+use lib.ListN.{length, getD, take}
+use Rattle.machine.specs.declared.Found.{Found}
+use Rattle.machine.specs.declared.Pair.{Pair}
+use Rattle.machine.specs.declared.Sizes.{Sizes}
+use Rattle.machine.specs.Meaning.Tables.{Tables, pairs, at, In, Ok, AlikeIn}
+use Rattle.machine.specs.Working.Maps.{Complete, FirstStill}
+use Rattle.machine.specs.Working.Pairs.{DiffersIn, stepIn}
+use Rattle.search.specs.Working.{Few, Nexts, Outs}
+
+pub record InRange (z : Sizes) : Type 0 where
+  pub few : Few z
+  pub some-old : 0 < z .old
+  pub some-new : 0 < z .new
+  pub some-vectors : 0 < z .vectors
+
+pub record LongEnough (t : Tables) (room : ℕ) : Type 0 where
+  pub old-next : t .sizes .old * t .sizes .vectors ≤ length (t .old-next)
+  pub old-out : t .sizes .old * t .sizes .vectors ≤ length (t .old-out)
+  pub new-next : t .sizes .new * t .sizes .vectors ≤ length (t .new-next)
+  pub new-out : t .sizes .new * t .sizes .vectors ≤ length (t .new-out)
+  pub lent : pairs (t .sizes) ≤ room
+
+pub record Stays (states vectors : ℕ) (next : List ℕ) : Type 0 where
+  pub stays : (i : ℕ) → i < states * vectors → getD next i 0 < states
+
+pub record Good (t : Tables) : Type 0 where
+  pub nexts : Nexts (t .sizes) (t .old-next) (t .new-next)
+  pub outs : Outs (t .sizes) (t .old-out) (t .new-out)
+
+pub record MapFor (t : Tables) (Goal : Pair → Type 0) (d : List ℕ) : Type 0 where
+  pub map : Complete (stepIn t) (Ok (t .sizes)) Goal (In (t .sizes)) (at (t .sizes) d)
+
+pub record MapOf (t : Tables) (Goal : Pair → Type 0) (d : List ℕ) (r : ℕ) : Type 0 where
+  pub complete : MapFor t Goal d
+  pub first : FirstStill (stepIn t) (Ok (t .sizes)) Goal (In (t .sizes)) r
+
+pub record Both (t : Tables) (depth reach : List ℕ) : Type 0 where
+  pub apart : MapFor t (DiffersIn t) depth
+  pub alike : MapFor t (AlikeIn t) reach
+
+-- nothing where there is none or no room, or the list
+pub data Outcome (Absent : Type 0) (Sought : List ℕ → Type 0) (list list′ : List ℕ) : Found → Type 0 where
+  missing : Absent → list′ ≡ list → Outcome Absent Sought list list′ (Found.Refused 15)
+  short : (Absent → ⊥) → (l : List ℕ) → Sought l → length list < length l → list′ ≡ list → Outcome Absent Sought list list′ (Found.Refused 16)
+  steps : (Absent → ⊥) → (n : ℕ) → n ≤ length list → Sought (take n list′) → ((i : ℕ) → n ≤ i → getD list′ i 0 ≡ getD list i 0) → Outcome Absent Sought list list′ (Found.Steps n)
