@@ -1,0 +1,4 @@
+pub mod Joining
+pub mod Images
+pub mod Encoding
+pub mod Refusals
