@@ -2,6 +2,9 @@ pub mod Spelling
 pub mod Gates
 pub mod Refusals
 pub mod Decoding
-pub mod Nets
+pub mod Carried
 pub mod Order
 pub mod Promises
+pub mod Accepted
+pub mod Determined
+pub mod Empty

@@ -4,7 +4,7 @@ use mathlib.Core.Path.{_≡_, sym, subst}
 use mathlib.Core.List.{List}
 use native.Mathlib.Omega.{arith}
 use native.Mathlib.Decide.{ℕ-discrete}
-use lib.Dec.{lit<}
+use lib.Dec.{lit<, lit≤}
 use lib.ListN.{length}
 use Rattle.memory.specs.Meaning.Refusals.{Free, LowestOrNone}
 use Rattle.memory.proofs.Refusals.{Clean, clean-more, no-number}
@@ -16,7 +16,7 @@ use Rattle.image.specs.Working.Scanning.{UnreadAbove, UnreadBelow}
 use Rattle.image.proofs.Refusals.{refused, no-6, no-7, no-8, fits, clean-5}
 use Rattle.image.proofs.Spelling.{zero-bits, field-some}
 use Rattle.image.proofs.Decoding.{Decodes, decodes}
-use Rattle.image.proofs.Nets.{image-5, no-5}
+use Rattle.image.proofs.Carried.{image-3, image-5, no-5}
 
 -- no number is over 9
 pub small : {b : List ℕ} {n : ℕ} → ImageFault b n → n < 10
@@ -35,10 +35,10 @@ small (ImageFault.pad i h k l) = lit< tt
 small (ImageFault.over l) = lit< tt
 small (ImageFault.loop i p) = lit< tt
 
-loop-of : {b : List ℕ} → ImageFault b 9 → DesignFault (decoded b) 9
+pub loop-of : {b : List ℕ} → ImageFault b 9 → DesignFault (decoded b) 9
 loop-of (ImageFault.loop i p) = DesignFault.loop i p
 
-of-loop : {b : List ℕ} → DesignFault (decoded b) 9 → ImageFault b 9
+pub of-loop : {b : List ℕ} → DesignFault (decoded b) 9 → ImageFault b 9
 of-loop (DesignFault.loop i p) = ImageFault.loop i p
 
 module _ (b : List ℕ) (head : Free (HeaderFault b)) (n : ℕ) (found : LowestOrNone (DesignFault (decoded b)) n) where
@@ -46,10 +46,7 @@ module _ (b : List ℕ) (head : Free (HeaderFault b)) (n : ℕ) (found : LowestO
   w = decodes b (fits head)
 
   no-design-3 : DesignFault (decoded b) 3 → ⊥
-  no-design-3 (DesignFault.inputs l) = omega (arith, w .inputs, fits head .few-inputs)
-  no-design-3 (DesignFault.latches l) = omega (arith, w .latches, fits head .few-latches)
-  no-design-3 (DesignFault.outputs l) = omega (arith, w .outputs, fits head .few-outputs)
-  no-design-3 (DesignFault.cells l) = omega (arith, w .count, fits head .few-cells)
+  no-design-3 f = head 3 (image-3 b (decoded b) w f, lit≤ tt)
 
   -- the design's number is 0, 5 or 9
   some-found : (n ≡ 0 → ⊥) → (n ≡ 5 → ⊥) → (n ≡ 9) × DesignFault (decoded b) 9

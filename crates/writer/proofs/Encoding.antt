@@ -18,7 +18,7 @@ use Rattle.netlist.specs.Working.Placing.{Sound}
 use Rattle.image.specs.Meaning.Format.{bitAt, fieldAt, versionIn, inputsIn, latchesIn, outputsIn, countIn, kindIn, firstIn, secondIn, cellAt, tailNet, bitsOf, bytesOf, Encodes}
 use Rattle.image.proofs.Spelling.{field-of, field-lt}
 use Rattle.image.proofs.Gates.{kind-lt}
-use Rattle.image.proofs.Nets.{tail-cases}
+use Rattle.image.proofs.Carried.{tail-cases}
 use Rattle.writer.specs.Meaning.Writing.{HoldsImage}
 use Rattle.writer.specs.Working.Packing.{joined, headerWord, cellWord, Packs, wordBit, wordByte}
 use Rattle.writer.proofs.Joining.{apart}

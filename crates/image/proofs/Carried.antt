@@ -1,4 +1,4 @@
--- The nets of an image and those of its design: 5 of the one, and of the other.
+-- The faults of an image and those of its design: 3, 5 and 9 of the one, and of the other.
 use Prim.Native.Nat.{ℕ, _+_, _-_, _<_, _≤_}
 use mathlib.Core.Path.{_≡_, _∙_, ap}
 use mathlib.Core.List.{List}
@@ -39,6 +39,12 @@ module _ (b : List ℕ) (d : Design) (w : Decodes b d) where
 
   first : (i : ℕ) → i < d .count → firstOf (gateAt d i) ≡ firstIn b i
   first i h = ap firstOf (w .gates i (omega (arith, w .count))) ∙ first-gate (kindIn b i) (firstIn b i) (secondIn b i)
+
+  pub image-3 : DesignFault d 3 → ImageFault b 3
+  image-3 (DesignFault.inputs l) = ImageFault.inputs (omega (arith, w .inputs))
+  image-3 (DesignFault.latches l) = ImageFault.latches (omega (arith, w .latches))
+  image-3 (DesignFault.outputs l) = ImageFault.outputs (omega (arith, w .outputs))
+  image-3 (DesignFault.cells l) = ImageFault.cells (omega (arith, w .count))
 
   pub image-5 : DesignFault d 5 → ImageFault b 5
   image-5 (DesignFault.first i h l) = ImageFault.first i (omega (arith, w .count)) (omega (arith, nets, first i h))
