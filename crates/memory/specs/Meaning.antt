@@ -1,3 +1,4 @@
 -- What has to be believed: the definitions that contracts cite.
 pub mod Refusals
 pub mod Slices
+pub mod Lists

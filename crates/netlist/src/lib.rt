@@ -21,7 +21,20 @@ impl Image {
 
     pub const MOST_CELLS: usize = 256;
 
-    pub const HEADER_BITS: usize = 4 + 4 + 4 + 4 + 9;
+    // The header: version, inputs, flip-flops and outputs of one width, then the number of cells.
+    pub const SIZE_BITS: usize = 4;
+
+    pub const COUNT_BITS: usize = 9;
+
+    pub const INPUTS_AT: usize = Image::SIZE_BITS;
+
+    pub const LATCHES_AT: usize = Image::INPUTS_AT + Image::SIZE_BITS;
+
+    pub const OUTPUTS_AT: usize = Image::LATCHES_AT + Image::SIZE_BITS;
+
+    pub const COUNT_AT: usize = Image::OUTPUTS_AT + Image::SIZE_BITS;
+
+    pub const HEADER_BITS: usize = Image::COUNT_AT + Image::COUNT_BITS;
 
     pub const KIND_BITS: usize = 3;
 

@@ -2,8 +2,8 @@
 use Prim.Native.Nat.{ℕ, zero, suc, _+_, _-_, _*_, _/_, _%_, _^_, _<_}
 use mathlib.Core.Path.{_≡_, refl, sym}
 use native.Mathlib.Omega.{arith}
-use native.Mathlib.Nat.{div-div-eq-div-mul, mul-comm, pow-suc}
-use native.Mathlib.Decide.{decLt}
+use native.Mathlib.Nat.{div-div-eq-div-mul, mul-comm, mul-assoc, pow-suc}
+use native.Mathlib.Decide.{decLt, ℕ-discrete}
 use lib.Arith.{mod-mul}
 use lib.Pow.{pow-pos, pow-mono}
 use lib.Dec.{lit<}
@@ -56,3 +56,35 @@ horner-lt f (suc w) h = omega (arith, pow-suc 2 w, horner-lt f w h, h w)
 -- room for one bit more
 pub horner-room : (f : ℕ → ℕ) (w : ℕ) → ((j : ℕ) → f j < 2) → w < 8 → horner f w * 2 + 1 < 2 ^ 8
 horner-room f w h l = omega (arith, horner-lt f w h, pow-mono {i = w} {j = 7} (omega arith))
+
+-- the bits of two numbers, one behind the other
+pub horner-append : (f : ℕ → ℕ) (v w : ℕ) → horner f (v + w) ≡ horner f v * 2 ^ w + horner (λ j. f (v + j)) w
+unfolding horner
+horner-append f v zero =
+    let e : v + 0 ≡ v = omega arith in
+    rw e (omega arith)
+horner-append f v (suc w) =
+    let e : v + suc w ≡ suc (v + w) = omega arith in
+    let p : horner f v * 2 ^ suc w ≡ horner f v * 2 ^ w * 2 = rw pow-suc (sym (mul-assoc (horner f v) (2 ^ w) 2)) in
+    rw e (omega (arith, horner-append f v w, p))
+
+-- bits spell 0 only where each of them is 0
+pub zero-digits : (f : ℕ → ℕ) (w : ℕ) → horner f w ≡ 0 → (j : ℕ) → j < w → f j ≡ 0
+unfolding horner
+zero-digits f zero e j h = absurd (omega arith)
+zero-digits f (suc w) e j h = go (zero-digits f w (omega arith) j) (decLt j w)
+  where
+    go : (j < w → f j ≡ 0) → Dec (j < w) → f j ≡ 0
+    go low (yes l) = low l
+    go low (no l) =
+        let k : j ≡ w = omega arith in
+        rw k (omega arith)
+
+pub horner-some : (f : ℕ → ℕ) (w : ℕ) → (horner f w ≡ 0 → ⊥) → (j : ℕ) × (j < w) × (f j ≡ 0 → ⊥)
+unfolding horner
+horner-some f zero h = absurd (h refl)
+horner-some f (suc w) h = go (horner-some f w) (ℕ-discrete (f w) 0)
+  where
+    go : ((horner f w ≡ 0 → ⊥) → (j : ℕ) × (j < w) × (f j ≡ 0 → ⊥)) → Dec (f w ≡ 0) → (j : ℕ) × (j < suc w) × (f j ≡ 0 → ⊥)
+    go some (yes e) = let r = some (λ q. h (omega arith)) in (r .0, omega (arith, r .1), r .2)
+    go some (no e) = (w, omega arith, e)

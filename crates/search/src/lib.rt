@@ -4,9 +4,10 @@ ghost use mathlib.Core.Path.{_≡_};
 ghost use Prim.Native.Nat.{ℕ, _+_, _-_, _*_, _<_, _≤_};
 ghost use lib.ListN.{length, getD};
 ghost use Rattle.machine.specs.Meaning.Tables.{pairs, number, at, In};
+ghost use Rattle.machine.specs.Working.Pairs.{pairAt};
 ghost use Rattle.numbers.specs.Meaning.Count.{countOf};
 ghost use Rattle.memory.specs.Working.Tests.{Tells};
-ghost use Rattle.search.specs.Working.{Few, Nexts, Outs, Cell, LowestBelow, To, Different, DiffersAt, Flagged, Visited, Rounded, Walk, Ready, Searched, Descent, Descended, move, pairAt};
+ghost use Rattle.search.specs.Working.{Few, Nexts, Outs, Cell, LowestBelow, To, Different, DiffersAt, Flagged, Visited, Rounded, Walk, Ready, Searched, Descent, Descended, move};
 use machine::Pair;
 use machine::Sizes;
 

@@ -1,6 +1,8 @@
 -- The sizes of the netlist image, named once.
 --   mostInputs, mostLatches, mostOutputs, mostCells   the limits of the header's sizes
---   headerBits, kindBits, netBits, cellBits           how many bits the fields take
+--   sizeBits, countBits, kindBits, netBits            how many bits the fields take
+--   inputsAt, latchesAt, outputsAt, countAt           where the header's fields stand, behind the version
+--   headerBits, cellBits                              bits of the header, and of a cell
 --   bitsFor g l o, bytesFor g l o                     bits and bytes of an image of g cells, l flip-flops and o outputs
 --   mostBytes                                         bytes of the largest image
 --   mostNets                                          nets of the largest design
@@ -22,9 +24,27 @@ mostOutputs = 8
 abbrev pub mostCells : ℕ
 mostCells = 256
 
--- version, inputs, flip-flops and outputs have 4 bits each, and the number of cells 9
+-- "The header is version (4 bits, value 1), inputs I (4 bits ..), flip-flops L (4 bits ..), outputs O (4 bits ..), cells G (9 bits ..)"
+abbrev pub sizeBits : ℕ
+sizeBits = 4
+
+abbrev pub countBits : ℕ
+countBits = 9
+
+abbrev pub inputsAt : ℕ
+inputsAt = sizeBits
+
+abbrev pub latchesAt : ℕ
+latchesAt = inputsAt + sizeBits
+
+abbrev pub outputsAt : ℕ
+outputsAt = latchesAt + sizeBits
+
+abbrev pub countAt : ℕ
+countAt = outputsAt + sizeBits
+
 abbrev pub headerBits : ℕ
-headerBits = 4 + 4 + 4 + 4 + 9
+headerBits = countAt + countBits
 
 -- "G cells (kind 3 bits, first net 9 bits, second net 9 bits)"
 abbrev pub kindBits : ℕ

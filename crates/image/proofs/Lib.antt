@@ -1,0 +1,10 @@
+pub mod Spelling
+pub mod Gates
+pub mod Refusals
+pub mod Decoding
+pub mod Carried
+pub mod Order
+pub mod Promises
+pub mod Accepted
+pub mod Determined
+pub mod Empty

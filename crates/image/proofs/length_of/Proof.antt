@@ -1,0 +1,19 @@
+-- `length_of`: the lowest number of the header, or the bytes that it gives.
+use borrow.Author.Needs.{needs}
+use Rattle.image.proofs.length_of.Statement.{statement}
+use Rattle.image.proofs.length_of.Tie as tie
+
+header-fault-requires : tie.Need-header-fault-requires
+header-fault-requires c κs = search needs
+
+returns : tie.Need-returns
+returns c = record { keeps = (c .before .header-fault .ensures .some (c .if1 .taken), tt) }
+
+bytes-requires : tie.Need-bytes-requires
+bytes-requires c κs = search needs
+
+returns-2 : tie.Need-returns-2
+returns-2 c = record { keeps = (c .before .before .header-fault .ensures .none (c .before .if1 .left), c .bytes .ensures .0) }
+
+pub length-of-spec : {M : Type 1} → statement M
+length-of-spec = tie.close (tie.spec header-fault-requires returns bytes-requires returns-2)

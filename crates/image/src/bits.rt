@@ -1,0 +1,29 @@
+// Bits and bit fields of an image.
+ghost use mathlib.Core.Path.{_≡_};
+ghost use Prim.Native.Nat.{_^_, _<_, _≤_};
+ghost use Rattle.image.specs.Meaning.Format.{bitAt, fieldAt};
+
+// The number that `width` bits from bit `at` on spell.
+pub fn field(image: &[u8], at: usize, width: usize) -> u16
+    requires { ⌜ (at < 65536) × (width ≤ 16) ⌝ }
+    ensures { λ r. ⌜ (r ≡ fieldAt (now (image .entry)) at width) × (r < 2 ^ width) ⌝ }
+{
+    let mut n: u16 = 0;
+    let mut k: usize = 0;
+    while k < width {
+        n = n * 2 + bit(image, at + k);
+        k += 1;
+    }
+    n
+}
+
+// Bit i of the image, 0 past its end.
+fn bit(image: &[u8], i: usize) -> u16
+    ensures { λ r. ⌜ r ≡ bitAt (now (image .entry)) i ⌝ }
+{
+    let k = i / 8;
+    if k < image.len() {
+        return ((image[k] >> (7 - i % 8)) % 2) as u16;
+    }
+    0
+}

@@ -1,0 +1,65 @@
+// The netlist image: its length, and the design that it spells.
+mod bits;
+mod decode;
+mod faults;
+mod fields;
+
+ghost use mathlib.Core.Path.{_≡_};
+ghost use Rattle.image.specs.Meaning.Reading.{Measures, Reads, emptyDesign};
+use netlist::Design;
+
+pub enum Length {
+    Bytes(usize),
+    Refused(u8),
+}
+
+// How many bytes the image at the front of a slice takes. What follows it is not looked at, so that images can stand back to back.
+pub fn length_of(image: &[u8]) -> Length
+    ensures { λ r. ⌜ Measures (now (image .entry)) r ⌝ }
+{
+    let number = faults::header_fault(image);
+    if number != 0 {
+        return Length::Refused(number);
+    }
+    Length::Bytes(fields::bytes(image))
+}
+
+pub enum Answer {
+    Accepted,
+    Refused(u8),
+}
+
+// An answer, and beside it the design, or the empty one.
+pub struct Reading {
+    pub answer: Answer,
+    pub design: Design,
+}
+
+// The design that an image spells.
+pub fn read(image: &[u8]) -> Reading
+    ensures { λ r. ⌜ Reads (now (image .entry)) r ⌝ }
+{
+    let number = faults::header_fault(image);
+    if number != 0 {
+        return refusal(number);
+    }
+    let design = decode::decode(image);
+    let number = faults::field_fault(image, netlist::fault_of(design));
+    if number != 0 {
+        return refusal(number);
+    }
+    Reading {
+        answer: Answer::Accepted,
+        design,
+    }
+}
+
+fn refusal(number: u8) -> Reading
+    ensures { λ r. ⌜ (r .answer ≡ Answer.Refused number) × (r .design ≡ emptyDesign) ⌝ }
+{
+    let design = decode::empty();
+    Reading {
+        answer: Answer::Refused(number),
+        design,
+    }
+}

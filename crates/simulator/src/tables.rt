@@ -1,0 +1,92 @@
+// The tables of a design.
+ghost use mathlib.Core.Path.{_≡_};
+ghost use Prim.Native.Nat.{_≤_};
+ghost use lib.ListN.{length};
+ghost use Rattle.memory.specs.Meaning.Refusals.{LowestOrNone};
+ghost use Rattle.netlist.specs.Meaning.Faults.{DesignFault};
+ghost use Rattle.netlist.specs.Working.Placing.{Sound};
+ghost use Rattle.simulator.specs.Meaning.Tables.{sizeOf, TableFault, InterfaceFault, BothFault};
+ghost use Rattle.simulator.specs.Working.Filling.{Fillable, FilledTables};
+use netlist::Design;
+use netlist::Image;
+
+// How many bytes the table slices of a design have.
+pub struct Room {
+    pub next: usize,
+    pub out: usize,
+}
+
+// The lowest number that applies to tabulating a design; `number` is the lowest that applies to the design itself.
+pub fn table_number(d: Design, number: u8, room: Room) -> u8
+    requires { ⌜ LowestOrNone (DesignFault d) number ⌝ }
+    ensures { λ r. ⌜ LowestOrNone (TableFault d (room .next) (room .out)) r ⌝ }
+{
+    if number != 0 {
+        return number;
+    }
+    let size = size(d);
+    if room.next < size {
+        return 12;
+    }
+    if room.out < size {
+        return 12;
+    }
+    0
+}
+
+// The lowest number that applies to tabulating two designs.
+pub fn both_number(
+    old: Design,
+    new: Design,
+    number0: u8,
+    number1: u8,
+    room0: Room,
+    room1: Room,
+) -> u8
+    requires { ⌜ (LowestOrNone (DesignFault old) number0) × (LowestOrNone (DesignFault new) number1) ⌝ }
+    ensures { λ r. ⌜ LowestOrNone (BothFault old new (room0 .next) (room0 .out) (room1 .next) (room1 .out)) r ⌝ }
+{
+    let table0 = table_number(old, number0, room0);
+    let table1 = table_number(new, number1, room1);
+    let table = memory::lower_number(table0, table1);
+    memory::lower_number(table, interface_number(old, new))
+}
+
+// 10 where the designs cannot be compared, or 0.
+fn interface_number(old: Design, new: Design) -> u8
+    ensures { λ r. ⌜ LowestOrNone (InterfaceFault old new) r ⌝ }
+{
+    if old.inputs != new.inputs {
+        return 10;
+    }
+    if old.outputs != new.outputs {
+        return 10;
+    }
+    0
+}
+
+// Every clock of a design, in cleared slices.
+pub fn fill(d: Design, cells: [u16; Image::MOST_CELLS], next: &mut [u8], out: &mut [u8])
+    requires { ⌜ Fillable d cells (now next) (now out) ⌝ }
+    ensures { λ _. ⌜ FilledTables d (length (now (next .entry))) (length (now (out .entry))) (sizeOf d) (now (next .exit)) (now (out .exit)) ⌝ }
+{
+    let vectors = crate::eval::power(d.inputs);
+    let end = size(d);
+    let mut k = 0;
+    while k < end {
+        let s = k / vectors;
+        let v = k % vectors;
+        let t = crate::eval::step(d, cells, s, v);
+        next[k] = t.next;
+        out[k] = t.out;
+        k += 1;
+    }
+}
+
+// Entries of a table.
+fn size(d: Design) -> usize
+    requires { ⌜ Sound d ⌝ }
+    ensures { λ r. ⌜ (r ≡ sizeOf d) × (r ≤ 65536) ⌝ }
+{
+    crate::eval::power(d.latches) * crate::eval::power(d.inputs)
+}

@@ -1,0 +1,48 @@
+-- No refusal has number 0, and no two replies, or slices left, meet one promise.
+use Prim.Native.Nat.{ℕ, _<_}
+use mathlib.Core.Path.{_≡_, refl, sym, _∙_, ap}
+use mathlib.Core.List.{List}
+use native.Mathlib.Omega.{arith}
+use native.Mathlib.Decide.{decLt}
+use lib.ListN.{length, getD, take}
+use lib.Seq.{ext-getD, getD-take}
+use Rattle.memory.specs.Meaning.Refusals.{Reply, answer, refusal}
+use Rattle.memory.specs.Meaning.Slices.{Zero}
+use Rattle.memory.proofs.Refusals.{keeps-unique}
+use Rattle.memory.proofs.Slices.{zero-unique}
+use Rattle.netlist.specs.declared.Design.{Design}
+use Rattle.writer.specs.declared.Written.{Written}
+use Rattle.writer.specs.declared.Written.the-variants.{Bytes, Refused}
+use Rattle.writer.specs.Meaning.Writing.{WriteFault, writeReply, HoldsImage, Writes}
+use Rattle.writer.proofs.Images.{one-image}
+use Rattle.writer.proofs.Refusals.{some-fault}
+use Rattle.writer.proofs.RoundTrip.{AreBytes, front-bytes}
+
+pub write-not-zero : {d : Design} {n : ℕ} {l : List ℕ} → Writes d n (Refused 0) l → ⊥
+write-not-zero {d} {n} p = omega (arith, some-fault d n (p .keeps .0 .applies))
+
+-- a slice that holds the image of d, and zero beyond, is one slice
+holds-unique : (d : Design) (a b : List ℕ) → length a ≡ length b → AreBytes a → AreBytes b → (x y : ℕ) → HoldsImage d a x → HoldsImage d b y → (x ≡ y) × (a ≡ b)
+holds-unique d a b e p q x y h k =
+    let s : x ≡ y = h .bytes ∙ sym (k .bytes) in
+    let o : take y a ≡ take y b = one-image d (take y a) (take y b) (rw s at (h .image)) (k .image) (front-bytes y a p) (front-bytes y b q) in
+    (s, ext-getD 0 a b e (λ i _. at s o i (decLt i y)))
+  where
+    at : x ≡ y → take y a ≡ take y b → (i : ℕ) → Dec (i < y) → getD a i 0 ≡ getD b i 0
+    at s o i (yes l) = sym (getD-take y a i 0 l) ∙ ap (λ (z : List ℕ). getD z i 0) o ∙ getD-take y b i 0 l
+    at s o i (no l) = h .beyond i (omega arith) ∙ sym (k .beyond i (omega arith))
+
+written : Reply ℕ → Written
+written (answer n) = Bytes n
+written (refusal n) = Refused n
+
+written-back : (r : Written) → written (writeReply r) ≡ r
+unfolding written
+written-back (Bytes n) = refl
+written-back (Refused n) = refl
+
+pub one-writing : (d : Design) (n : ℕ) (r t : Written) (a b : List ℕ) → AreBytes a → AreBytes b → Writes d n r a → Writes d n t b → (r ≡ t) × (a ≡ b)
+one-writing d n r t a b p q u v =
+    let e : length a ≡ length b = u .size ∙ sym (v .size) in
+    let o = keeps-unique (WriteFault d n) (HoldsImage d) Zero a b (holds-unique d a b e p q) (zero-unique a b e) (writeReply r) (writeReply t) (u .keeps) (v .keeps) in
+    (sym (written-back r) ∙ ap written (o .0) ∙ written-back t, o .1)

@@ -1,0 +1,113 @@
+-- Reading and writing undo each other.
+use Prim.Native.Nat.{ℕ, _+_, _-_, _<_, _≤_}
+use mathlib.Core.Path.{_≡_, refl, sym, _∙_, ap}
+use mathlib.Core.List.{List}
+use native.Mathlib.Omega.{arith}
+use native.Mathlib.Decide.{decLt}
+use borrow.Author.Tests.{lt-ltb, le-ltb}
+use lib.Dec.{lit<}
+use lib.ListN.{length, getD, take, length-take, List·getD-eq-default}
+use lib.Seq.{getD-take}
+use Rattle.memory.specs.Meaning.Refusals.{Free, Keeps}
+use Rattle.memory.specs.Meaning.Slices.{Zero}
+use Rattle.netlist.specs.declared.Design.{Design}
+use Rattle.netlist.specs.Meaning.Gates.{kindOf, firstOf, secondOf}
+use Rattle.netlist.specs.Meaning.Faults.{Accepted, SameDesign}
+use Rattle.image.specs.declared.Answer.{Answer}
+use Rattle.image.specs.declared.Answer.the-variants as Answer·variants
+use Rattle.image.specs.declared.Reading.{Reading}
+use Rattle.image.specs.Meaning.Format.{bytesOf, tailNet, decoded, Encodes}
+use Rattle.image.specs.Meaning.Faults.{ImageFault}
+use Rattle.image.specs.Meaning.Reading.{Reads, readReply, emptyDesign}
+use Rattle.image.proofs.Accepted.{image-encodes, image-accepted, spelled, clean}
+use Rattle.writer.specs.declared.Written.{Written}
+use Rattle.writer.specs.declared.Written.the-variants.{Bytes, Refused}
+use Rattle.writer.specs.Meaning.Writing.{WriteFault, writeReply, HoldsImage, Writes}
+use Rattle.writer.proofs.Images.{one-image}
+use Rattle.writer.proofs.Refusals.{none}
+
+-- entries of a list of bytes, and of its front
+abbrev pub AreBytes : List ℕ → Type 0
+AreBytes l = (k : ℕ) → getD l k 0 < 256
+
+pub front-bytes : (n : ℕ) (l : List ℕ) → AreBytes l → AreBytes (take n l)
+front-bytes n l h k = go (decLt k n)
+  where
+    past : length (take n l) ≤ k → getD (take n l) k 0 ≡ 0
+    past e = List·getD-eq-default (take n l) 0 e
+
+    go : Dec (k < n) → getD (take n l) k 0 < 256
+    go (yes q) = rw (getD-take n l k 0 q) (h k)
+    go (no q) = rw (past (omega (arith, length-take n l))) (lit< tt)
+
+-- an image that is read encodes the design that is returned
+pub read-encodes : (b : List ℕ) (d : Design) → Reads b (record { answer = Answer·variants.Accepted; design = d }) → Encodes d b
+read-encodes b d r = rw (r .keeps .1) (image-encodes b (r .keeps .0))
+
+-- "Reading an accepted image and writing it again yields those bytes"
+pub read-write : (b : List ℕ) (d : Design) → Reads b (record { answer = Answer·variants.Accepted; design = d }) → AreBytes b
+    → (n : ℕ) (w : Written) (l : List ℕ) → Writes d n w l → AreBytes l → length b ≤ n → (w ≡ Bytes (length b)) × (take (length b) l ≡ b)
+read-write b d r p n w l h q room = go w (h .keeps)
+  where
+    e : Encodes d b
+    e = read-encodes b d r
+
+    a : Accepted d
+    a = rw (r .keeps .1) (image-accepted b (r .keeps .0))
+
+    free : Free (WriteFault d n)
+    free = none d n a (omega (arith, e .size))
+
+    go : (w : Written) → Keeps (WriteFault d n) (HoldsImage d l) (Zero l) (writeReply w) → (w ≡ Bytes (length b)) × (take (length b) l ≡ b)
+    go (Bytes k) (f, i) =
+        let s : k ≡ length b = i .bytes ∙ sym (e .size) in
+        (ap Bytes s, rw (← s) (one-image d (take k l) b (i .image) e (front-bytes k l q) p))
+    go (Refused k) (m, z) = absurd (free k (m .applies))
+
+-- "writing an accepted design and reading it yields that design"
+pub write-read : (d : Design) (n k : ℕ) (l : List ℕ) → Writes d n (Bytes k) l → (r : Reading) → Reads (take k l) r
+    → (r .answer ≡ Answer·variants.Accepted) × SameDesign d (r .design)
+write-read d n k l h r w = go (r .answer) (r .design) (w .keeps)
+  where
+    a : Accepted d
+    a m f = h .keeps .0 m (WriteFault.design f)
+
+    e : Encodes d (take k l)
+    e = h .keeps .1 .image
+
+    go : (x : Answer) (c : Design) → Keeps (ImageFault (take k l)) (λ c. c ≡ decoded (take k l)) (r .design ≡ emptyDesign) (readReply x c) → (x ≡ Answer·variants.Accepted) × SameDesign d c
+    go Answer·variants.Accepted c (f, i) = (refl, rw i (spelled (take k l) d e a))
+    go (Answer·variants.Refused m) c (f, z) = absurd (clean (take k l) d e a m (f .applies))
+
+-- an accepted design is written where there is room for it
+pub writes : (d : Design) → Accepted d → (n : ℕ) (w : Written) (l : List ℕ) → Writes d n w l → bytesOf d ≤ n → w ≡ Bytes (bytesOf d)
+writes d a n w l h room = go w (h .keeps)
+  where
+    go : (w : Written) → Keeps (WriteFault d n) (HoldsImage d l) (Zero l) (writeReply w) → w ≡ Bytes (bytesOf d)
+    go (Bytes k) (f, i) = ap Bytes (i .bytes)
+    go (Refused k) (m, z) = absurd (none d n a room k (m .applies))
+
+-- entries beyond the sizes do not change the image
+pub same-image : (d c : Design) (b : List ℕ) → SameDesign d c → Encodes d b → Encodes c b
+same-image d c b s e = record {
+  size = e .size ∙ rw (s .count, s .latches, s .outputs);
+  version = e .version;
+  inputs = e .inputs ∙ s .inputs;
+  latches = e .latches ∙ s .latches;
+  outputs = e .outputs ∙ s .outputs;
+  count = e .count ∙ s .count;
+  kinds = λ i h. let k : i < d .count = omega (arith, s .count) in e .kinds i k ∙ ap kindOf (s .gates i k);
+  firsts = λ i h. let k : i < d .count = omega (arith, s .count) in e .firsts i k ∙ ap firstOf (s .gates i k);
+  seconds = λ i h. let k : i < d .count = omega (arith, s .count) in e .seconds i k ∙ ap secondOf (s .gates i k);
+  tails = λ t h. e .tails t (omega (arith, s .latches, s .outputs)) ∙ tail t h;
+  pad = λ i h p. e .pad i (omega (arith, s .count, s .latches, s .outputs)) p;
+}
+  where
+    tail : (t : ℕ) → t < c .latches + c .outputs → tailNet d t ≡ tailNet c t
+    tail t h = go (decLt t (d .latches))
+      where
+        go : Dec (t < d .latches) → tailNet d t ≡ tailNet c t
+        go (yes p) = simp (lt-ltb t (d .latches) p, lt-ltb t (c .latches) (omega (arith, s .latches))) (s .reads t p)
+        go (no p) =
+            let k : t - d .latches ≡ t - c .latches = omega (arith, s .latches) in
+            simp (le-ltb t (d .latches) (omega arith), le-ltb t (c .latches) (omega (arith, s .latches))) (s .shows (t - d .latches) (omega (arith, s .latches, s .outputs)) ∙ ap (λ (j : ℕ). getD (c .shown) j 0) k)

@@ -1,0 +1,62 @@
+-- `write`: the design's own number, 12, or the image.
+use mathlib.Core.Path.{_∙_}
+use native.Mathlib.Omega.{arith}
+use Rattle.netlist.proofs.Numbers.{sound-of}
+use Rattle.writer.proofs.Refusals.{own-number, twelve, none}
+use borrow.Author.Needs.{needs}
+use Rattle.writer.proofs.write.Statement.{statement}
+use Rattle.writer.proofs.write.Tie as tie
+
+clear-bytes-requires : tie.Need-clear-bytes-requires
+clear-bytes-requires c κs = search needs
+
+fault-of-requires : tie.Need-fault-of-requires
+fault-of-requires c κs = search needs
+
+same-length : tie.Need-same-length
+same-length c = search needs
+
+returns : tie.Need-returns
+returns c =
+    let z = c .before .before .before .before .clear-bytes .ensures in
+    record { size = z .size; keeps = (own-number _ _ (c .before .fault-of .ensures .some (c .if1 .taken)), z .zero) }
+
+bytes-requires : tie.Need-bytes-requires
+bytes-requires c κs = sound-of (c .before .fault-of .ensures .none (c .if1 .left))
+
+same-length-2 : tie.Need-same-length-2
+same-length-2 c = search needs
+
+returns-2 : tie.Need-returns-2
+returns-2 c =
+    let z = c .before .before .before .before .before .before .clear-bytes .ensures in
+    record { size = z .size; keeps = (twelve _ _ (c .before .before .before .fault-of .ensures .none (c .before .before .if1 .left)) (omega (arith, c .before .bytes .ensures, z .size, c .if2 .taken)), z .zero) }
+
+put-requires : tie.Need-put-requires
+put-requires c κs =
+    let z = c .before .before .before .before .before .before .before .clear-bytes .ensures in
+    (sound-of (c .before .before .before .before .fault-of .ensures .none (c .before .before .before .if1 .left)), c .before .before .bytes .ensures, c .before .if2 .left, z .zero)
+
+same-length-3 : tie.Need-same-length-3
+same-length-3 c = search needs
+
+returns-3 : tie.Need-returns-3
+returns-3 c =
+    let z = c .before .before .before .before .before .before .before .before .before .before .clear-bytes .ensures in
+    let p = c .before .before .put .ensures in
+    record { size = p .0 ∙ z .size; keeps = (none _ _ (c .before .before .before .before .before .before .before .fault-of .ensures .none (c .before .before .before .before .before .before .if1 .left)) (omega (arith, c .before .before .before .before .before .bytes .ensures, z .size, c .before .before .before .before .if2 .left)), p .1) }
+
+pub write-spec : {M : Type 1} → statement M
+write-spec =
+    tie.close
+    (tie.spec
+    clear-bytes-requires
+    fault-of-requires
+    same-length
+    returns
+    bytes-requires
+    same-length-2
+    returns-2
+    put-requires
+    same-length-3
+    returns-3)

@@ -1,0 +1,29 @@
+// Writing the netlist image of a design.
+mod layout;
+mod packing;
+
+ghost use lib.ListN.{length};
+ghost use Rattle.writer.specs.Meaning.Writing.{Writes};
+use netlist::Design;
+
+pub enum Written {
+    Bytes(usize),
+    Refused(u8),
+}
+
+// Writes the image of a design, and zero behind it.
+pub fn write(d: Design, image: &mut [u8]) -> Written
+    ensures { λ r. ⌜ Writes d (length (now (image .entry))) r (now (image .exit)) ⌝ }
+{
+    memory::clear_bytes(image);
+    let number = netlist::fault_of(d);
+    if number != 0 {
+        return Written::Refused(number);
+    }
+    let bytes = layout::bytes(d);
+    if image.len() < bytes {
+        return Written::Refused(12);
+    }
+    layout::put(d, bytes, image);
+    Written::Bytes(bytes)
+}
