@@ -7,7 +7,7 @@ ghost use Rattle.memory.specs.Meaning.Slices.{Zero, Cleared};
 ghost use Rattle.machine.specs.Meaning.Tables.{tables, pairs, In, AlikeIn, AlignableIn, TraceIn, ListIn};
 ghost use Rattle.seek.specs.Meaning.Faults.{Fault};
 ghost use Rattle.seek.specs.Working.Steps.{Good, Outcome};
-ghost use Rattle.engine.specs.Meaning.Lent.{lent, left};
+ghost use Rattle.seek.specs.Meaning.Lent.{lent, left};
 ghost use Rattle.engine.specs.Meaning.Maps.{roomOf, MapsAlike, MapsAlignable};
 ghost use Rattle.engine.specs.Meaning.Pairs.{StateFault, FindsTrace, FindsList};
 ghost use Rattle.engine.specs.Working.Clearing.{Emptied};
