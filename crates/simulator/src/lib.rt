@@ -18,9 +18,8 @@ pub fn clock(d: Design, state: usize, vector: usize) -> Clocked
     ensures { λ r. ⌜ Clocks d state vector r ⌝ }
 {
     let plan = netlist::order::levelize(d);
-    let number = plan.number;
-    if number != 0 {
-        return Clocked::Refused(number);
+    if plan.number != 0 {
+        return Clocked::Refused(plan.number);
     }
     if eval::power(d.latches) <= state {
         return Clocked::Refused(14);
