@@ -2,7 +2,6 @@
 mod designs;
 mod show;
 
-use netlist::Cell;
 use netlist::Design;
 use netlist::Gate;
 
@@ -129,17 +128,17 @@ fn both(
     label: &[u8],
     old: Design,
     new: Design,
-    next0: &mut [u8],
-    out0: &mut [u8],
-    next1: &mut [u8],
-    out1: &mut [u8],
+    old_next: &mut [u8],
+    old_out: &mut [u8],
+    new_next: &mut [u8],
+    new_out: &mut [u8],
 ) {
-    let r = simulator::tabulate_both(old, new, next0, out0, next1, out1);
+    let r = simulator::tabulate_both(old, new, old_next, old_out, new_next, new_out);
     show::tabulated_both(label, r);
-    show::bytes(b"  old next", next0);
-    show::bytes(b"  old output", out0);
-    show::bytes(b"  new next", next1);
-    show::bytes(b"  new output", out1);
+    show::bytes(b"  old next", old_next);
+    show::bytes(b"  old output", old_out);
+    show::bytes(b"  new next", new_next);
+    show::bytes(b"  new output", new_out);
 }
 
 // The same with slices that hold six sevens, of which one may have only three: none, or the first to the fourth.
