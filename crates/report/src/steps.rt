@@ -34,10 +34,10 @@ pub fn put_steps(
     let mut i = 0;
     while i < n {
         let vector = pieces::wide(list[i]);
+        let after = next_pair(old_next, new_next, sizes, q, vector);
         let old = entry_at(old_out, sizes, q.old, vector);
         let new = entry_at(new_out, sizes, q.new, vector);
         end = lines::put_step(vector, old, new, text, end);
-        let after = next_pair(old_next, new_next, sizes, q, vector);
         q = after;
         i += 1;
     }

@@ -31,6 +31,9 @@ shared-slice-read-wide c = search needs
 wide-requires : tie.Need-wide-requires Inv-loop μ-loop
 wide-requires c κs = search needs
 
+next-pair-requires : tie.Need-next-pair-requires Inv-loop μ-loop
+next-pair-requires c κs = search needs
+
 entry-at-requires : tie.Need-entry-at-requires Inv-loop μ-loop
 entry-at-requires c κs = search needs
 
@@ -39,9 +42,6 @@ entry-at-requires-2 c κs = search needs
 
 put-step-requires : tie.Need-put-step-requires Inv-loop μ-loop
 put-step-requires c κs = search needs
-
-next-pair-requires : tie.Need-next-pair-requires Inv-loop μ-loop
-next-pair-requires c κs = search needs
 
 add-i : tie.Need-add-i Inv-loop μ-loop
 add-i c = search needs
@@ -52,8 +52,11 @@ loop-less c = search needs
 loop-again : tie.Need-loop-again Inv-loop μ-loop
 loop-again c = (
   omega arith,
-  c .next-pair .ensures .1,
-  listed-more _ _ (omega arith) (c .before .before .before .before .before .before .before .before .before .before .loop .inv .2) (c .before .before .before .before .before .before .before .wide .ensures .0) (ap₂ (shownLine _) (c .before .before .before .before .before .before .entry-at .ensures .0) (c .before .before .before .before .before .entry-at2 .ensures .0)) (c .next-pair .ensures .0) (c .before .before .before .put-step .ensures),
+  c .before .before .before .before .before .before .next-pair .ensures .1,
+  listed-more _ _ (omega arith) (c .before .before .before .before .before .before .before .before .before .before .loop .inv .2) (c .before .before .before .before .before .before .before .wide .ensures .0)
+      (ap₂ (shownLine _) (c .before .before .before .before .before .entry-at .ensures .0) (c .before .before .before .before .entry-at2 .ensures .0))
+      (c .before .before .before .before .before .before .next-pair .ensures .0)
+      (c .before .before .put-step .ensures),
 )
 
 same-length : tie.Need-same-length Inv-loop μ-loop
@@ -71,10 +74,10 @@ put-steps-spec =
     loop-holds
     shared-slice-read-wide
     wide-requires
+    next-pair-requires
     entry-at-requires
     entry-at-requires-2
     put-step-requires
-    next-pair-requires
     add-i
     loop-less
     loop-again
