@@ -1,6 +1,6 @@
 -- `next_pair`: both entries are bytes.
 use borrow.Author.Needs.{needs}
-use Rattle.search.proofs.Cells.{same-pair}
+use Rattle.machine.proofs.Numbers.{same-pair}
 use Rattle.report.proofs.steps.next_pair.Statement.{statement}
 use Rattle.report.proofs.steps.next_pair.Tie as tie
 
