@@ -1,168 +1,127 @@
+-- `write_comparison`: the verdict's steps fit, and so does the text.
+use mathlib.Core.Path.{_∙_}
+use native.Mathlib.Omega.{arith}
+use Rattle.align_report.proofs.Fitting.{verdict-fits}
 use borrow.Author.Needs.{needs}
 use Rattle.align_report.proofs.write_comparison.Statement.{statement}
 use Rattle.align_report.proofs.write_comparison.Tie as tie
-use Rattle.align_report.proofs.write_comparison.Reads as reads
-use Rattle.align_report.proofs.write_comparison.Lts as lts
-use Rattle.align_report.proofs.count_pairs.Reads as count-pairs-reads
-use Rattle.align_report.proofs.numbers_of.counted.Reads as counted-reads
-use Rattle.align_report.proofs.write_apart.Reads as write-apart-reads
-use Rattle.compare.proofs.compare.Reads as compare-reads
-use Rattle.report.proofs.put_refusal.Reads as put-refusal-reads
-use Rattle.report.proofs.put_same.Reads as put-same-reads
 
--- src/lib.rt:74:9
 compare-requires : tie.Need-compare-requires
 compare-requires c κs = search needs
 
--- src/lib.rt:77:23
 enum-known-verdict : tie.Need-enum-known-verdict
 enum-known-verdict c = search needs
 
--- src/lib.rt:78:9
 write-apart-requires : tie.Need-write-apart-requires
-write-apart-requires c κs = ?
+write-apart-requires c κs = (omega (arith, c .before .before .before .before .before .before .before .before .before .before .before .before .before .before .before .before .before .before .before .before .before .before .before .before .before .before .before .before .before .before .before .before .before .before .before .before .before .before .before .before .before .pre, c .before .before .before .before .before .before .before .before .before .before .before .list .given), verdict-fits _ (c .before .before .before .before .before .before .before .before .before .before .before .before .before .before .before .before .before .before .before .before .before .before .before .before .compare .ensures))
 
--- src/lib.rt:78:9
 same-length : tie.Need-same-length
 same-length c = search needs
 
--- src/lib.rt:78:9
 same-length-2 : tie.Need-same-length-2
 same-length-2 c = search needs
 
--- src/lib.rt:78:9
 same-length-3 : tie.Need-same-length-3
 same-length-3 c = search needs
 
--- src/lib.rt:78:9
 same-length-4 : tie.Need-same-length-4
 same-length-4 c = search needs
 
--- src/lib.rt:78:9
 same-length-5 : tie.Need-same-length-5
 same-length-5 c = search needs
 
--- src/lib.rt:78:9
 same-length-6 : tie.Need-same-length-6
 same-length-6 c = search needs
 
--- src/lib.rt:78:9
 same-length-7 : tie.Need-same-length-7
 same-length-7 c = search needs
 
--- src/lib.rt:78:9
 same-length-8 : tie.Need-same-length-8
 same-length-8 c = search needs
 
--- src/lib.rt:78:9
 same-length-9 : tie.Need-same-length-9
 same-length-9 c = search needs
 
--- src/lib.rt:78:9
 returns : tie.Need-returns
 returns c = search needs
 
--- src/lib.rt:82:9
 count-pairs-requires : tie.Need-count-pairs-requires
 count-pairs-requires c κs = search needs
 
--- src/lib.rt:85:24
 enum-known-counted : tie.Need-enum-known-counted
 enum-known-counted c = search needs
 
--- src/lib.rt:86:36
 enum-told : tie.Need-enum-told
 enum-told c = search needs
 
--- src/lib.rt:86:48
 counted-requires : tie.Need-counted-requires
 counted-requires c κs = search needs
 
--- src/lib.rt:86:9
 put-refusal-requires : tie.Need-put-refusal-requires
-put-refusal-requires c κs = ?
+put-refusal-requires c κs = omega (arith, c .before .before .before .before .before .before .before .before .before .before .before .before .before .before .before .before .before .before .before .before .before .before .before .before .before .before .before .before .before .before .before .before .before .before .before .before .before .before .before .before .before .before .before .before .before .before .before .before .before .before .before .before .pre)
 
--- src/lib.rt:86:9
 same-length-10 : tie.Need-same-length-10
 same-length-10 c = search needs
 
--- src/lib.rt:86:9
 same-length-11 : tie.Need-same-length-11
 same-length-11 c = search needs
 
--- src/lib.rt:86:9
 same-length-12 : tie.Need-same-length-12
 same-length-12 c = search needs
 
--- src/lib.rt:86:9
 same-length-13 : tie.Need-same-length-13
 same-length-13 c = search needs
 
--- src/lib.rt:86:9
 same-length-14 : tie.Need-same-length-14
 same-length-14 c = search needs
 
--- src/lib.rt:86:9
 same-length-15 : tie.Need-same-length-15
 same-length-15 c = search needs
 
--- src/lib.rt:86:9
 same-length-16 : tie.Need-same-length-16
 same-length-16 c = search needs
 
--- src/lib.rt:86:9
 same-length-17 : tie.Need-same-length-17
 same-length-17 c = search needs
 
--- src/lib.rt:86:9
 same-length-18 : tie.Need-same-length-18
 same-length-18 c = search needs
 
--- src/lib.rt:86:9
 returns-2 : tie.Need-returns-2
 returns-2 c = search needs
 
--- src/lib.rt:88:5
 put-same-requires : tie.Need-put-same-requires
-put-same-requires c κs = ?
+put-same-requires c κs =
+    let h = (rw (c .before .before .before .before .before .before .before .before .before .before .before .before .before .before .before .before .before .before .before .before .verdict .given .1) at (c .before .before .before .before .before .before .before .before .before .before .before .before .before .before .before .before .before .before .before .before .before .before .before .before .before .before .before .before .before .before .before .before .before .before .before .before .compare .ensures)) .keeps .1 .decided .fits in
+    (h, omega (arith, h, c .before .before .before .before .before .before .before .before .before .before .before .before .before .before .before .before .before .before .before .before .before .before .before .before .before .before .before .before .before .before .before .before .before .before .before .before .before .before .before .before .before .before .before .before .before .before .before .before .before .before .before .before .before .pre, c .before .before .before .before .before .before .before .before .before .before .before .before .before .before .before .before .before .before .before .before .before .before .before .list .given))
 
--- src/lib.rt:58:1
 same-length-19 : tie.Need-same-length-19
-same-length-19 c = ?
+same-length-19 c = c .before .before .before .before .before .before .before .before .before .before .before .before .before .before .before .before .before .before .before .before .before .before .before .before .before .before .before .before .before .before .before .before .before .before .before .before .before .before .old-next .given
 
--- src/lib.rt:58:1
 same-length-20 : tie.Need-same-length-20
-same-length-20 c = ?
+same-length-20 c = c .before .before .before .before .before .before .before .before .before .before .before .before .before .before .before .before .before .before .before .before .before .before .before .before .before .before .before .before .before .before .before .before .before .before .before .before .old-out .given
 
--- src/lib.rt:58:1
 same-length-21 : tie.Need-same-length-21
-same-length-21 c = ?
+same-length-21 c = c .before .before .before .before .before .before .before .before .before .before .before .before .before .before .before .before .before .before .before .before .before .before .before .before .before .before .before .before .before .before .before .before .before .before .new-next .given
 
--- src/lib.rt:58:1
 same-length-22 : tie.Need-same-length-22
-same-length-22 c = ?
+same-length-22 c = c .before .before .before .before .before .before .before .before .before .before .before .before .before .before .before .before .before .before .before .before .before .before .before .before .before .before .before .before .before .before .before .before .new-out .given
 
--- src/lib.rt:58:1
 same-length-23 : tie.Need-same-length-23
-same-length-23 c = ?
+same-length-23 c = c .before .before .before .before .before .before .before .before .before .before .before .before .before .depth3 .given ∙ c .before .before .before .before .before .before .before .before .before .before .before .before .before .before .before .before .before .before .before .before .before .before .before .before .before .before .before .before .before .before .depth .given
 
--- src/lib.rt:58:1
 same-length-24 : tie.Need-same-length-24
-same-length-24 c = ?
+same-length-24 c = c .before .before .before .before .before .before .before .before .before .before .before .reach3 .given ∙ c .before .before .before .before .before .before .before .before .before .before .before .before .before .before .before .before .before .before .before .before .before .before .before .before .before .before .before .before .reach .given
 
--- src/lib.rt:58:1
 same-length-25 : tie.Need-same-length-25
 same-length-25 c = search needs
 
--- src/lib.rt:58:1
 same-length-26 : tie.Need-same-length-26
 same-length-26 c = search needs
 
--- src/lib.rt:58:1
 same-length-27 : tie.Need-same-length-27
 same-length-27 c = search needs
 
--- src/lib.rt:58:1
 returns-3 : tie.Need-returns-3
 returns-3 c = search needs
 
