@@ -1,6 +1,6 @@
 -- The promise of `compare`, from those of the tabulating call and of the verdict on its tables.
 use Prim.Native.Nat.{ℕ, _<_, _≤_, min}
-use mathlib.Core.Path.{_≡_, refl, subst}
+use mathlib.Core.Path.{_≡_, _∙_, refl, subst}
 use mathlib.Core.List.{List}
 use native.Mathlib.Omega.{arith}
 use lib.ListN.{length}
@@ -11,6 +11,7 @@ use Rattle.netlist.specs.declared.Design.{Design}
 use Rattle.netlist.specs.Meaning.Faults.{Accepted}
 use Rattle.netlist.proofs.Numbers.{fault-bounds}
 use Rattle.simulator.specs.declared.TabulatedBoth.{TabulatedBoth}
+use Rattle.simulator.proofs.Room.{zero-tables}
 use Rattle.simulator.specs.Meaning.Tables.{HoldsDesign, TableFault, InterfaceFault, BothFault, TabulatesBoth}
 use Rattle.machine.specs.declared.Sizes.{Sizes}
 use Rattle.machine.specs.Meaning.Machine.{Machine}
@@ -24,7 +25,7 @@ use Rattle.verdict.specs.Meaning.Decision.{Decision, Decided, ShortList, short}
 use Rattle.verdict.specs.Meaning.Decision as D
 use Rattle.verdict.specs.Meaning.Promise.{JudgeFault}
 use Rattle.compare.specs.Meaning.Designs.{machineOf, sizesOf}
-use Rattle.compare.specs.Meaning.Comparing.{TablesLent, TablesLeft, tablesLeft, CompareFault, Compared, Compares}
+use Rattle.compare.specs.Meaning.Comparing.{TablesLent, TablesLeft, tablesLeft, CompareFault, Compared, TablesKept, Compares}
 use Rattle.compare.specs.Working.Judging.{JudgedOrCleared}
 use Rattle.compare.proofs.Agreement.{tables-agree, tables-fault}
 
@@ -74,19 +75,30 @@ module _ (a b : Design) (n : TablesLent) (s : Lent) (next0 out0 next1 out1 : Lis
   fault-back k (CompareFault.scratch h) = JudgeFault.call (Fault.short (TooShort.lent h))
   fault-back k (CompareFault.list f) = JudgeFault.list (short-there (same-back agree) (s .written) k f)
 
+  answered : (t : TablesLeft) (e : Left) (x : Decision) → t ≡ tablesLeft next0 out0 next1 out1 → Decided (oldMachine Both) (newMachine Both) (sizesOf a b) (e .written) x → Compared a b t e x
+  answered t e x q w = rw q (record { decided = decided-there agree (e .written) x w; old = h0; new = h1 })
+
+  kept : (t : TablesLeft) → t ≡ tablesLeft next0 out0 next1 out1 → TablesKept n t
+  kept t q = rw q (record { old-next = size0; old-out = size1; new-next = size2; new-out = size3 })
+
   compared : (t : TablesLeft) (e : Left) (r : Verdict) → JudgedOrCleared Both s t e r → Compares a b n s t e r
-  compared t e (Verdict.Same m) j = record { keeps = (λ k f. j .judges .keeps .0 k (fault-back k f), answered t e (D.same m) (j .tables) (j .judges .keeps .1)); tidy = j .judges .tidy }
-    where
-      answered : (t : TablesLeft) (e : Left) (x : Decision) → t ≡ tablesLeft next0 out0 next1 out1 → Decided (oldMachine Both) (newMachine Both) (sizesOf a b) (e .written) x → Compared a b t e x
-      answered t e x q w = rw q (record { decided = decided-there agree (e .written) x w; old = h0; new = h1 })
-  compared t e (Verdict.Apart p m) j = record { keeps = (λ k f. j .judges .keeps .0 k (fault-back k f), answered t e (D.apart p m) (j .tables) (j .judges .keeps .1)); tidy = j .judges .tidy }
-    where
-      answered : (t : TablesLeft) (e : Left) (x : Decision) → t ≡ tablesLeft next0 out0 next1 out1 → Decided (oldMachine Both) (newMachine Both) (sizesOf a b) (e .written) x → Compared a b t e x
-      answered t e x q w = rw q (record { decided = decided-there agree (e .written) x w; old = h0; new = h1 })
-  compared t e (Verdict.Refused m) j = record {
-    keeps = (record { applies = fault-there m (j .judges .keeps .0 .applies); lower = λ k l f. j .judges .keeps .0 .lower k l (fault-back k f) }, record { old = j .tables .0; new = j .tables .1; list = j .judges .keeps .1 });
+  compared t e (Verdict.Same m) j = record {
+    keeps = (λ k f. j .judges .keeps .0 k (fault-back k f), answered t e (D.same m) (j .tables) (j .judges .keeps .1));
     tidy = j .judges .tidy;
+    tables = kept t (j .tables);
   }
+  compared t e (Verdict.Apart p m) j = record {
+    keeps = (λ k f. j .judges .keeps .0 k (fault-back k f), answered t e (D.apart p m) (j .tables) (j .judges .keeps .1));
+    tidy = j .judges .tidy;
+    tables = kept t (j .tables);
+  }
+  compared t e (Verdict.Refused m) j =
+      let c = j .tables in
+      record {
+        keeps = (record { applies = fault-there m (j .judges .keeps .0 .applies); lower = λ k l f. j .judges .keeps .0 .lower k l (fault-back k f) }, record { old = zero-tables (c .0 .0) (c .0 .1); new = zero-tables (c .1 .0) (c .1 .1); list = j .judges .keeps .1 });
+        tidy = j .judges .tidy;
+        tables = record { old-next = c .0 .0 .size ∙ size0; old-out = c .0 .1 .size ∙ size1; new-next = c .1 .0 .size ∙ size2; new-out = c .1 .1 .size ∙ size3 };
+      }
 
 -- the two calls one after the other
 pub compared-both : (a b : Design) (n : TablesLent) (s : Lent) (s0 s1 v : ℕ) (next0 out0 next1 out1 : List ℕ) (t : TablesLeft) (e : Left) (r : Verdict)
@@ -119,6 +131,7 @@ pub refused-first : (a b : Design) (n : TablesLent) (s : Lent) (k : ℕ) (next0 
 refused-first a b n s k next0 out0 next1 out1 depth reach written w x y z = record {
   keeps = (record { applies = CompareFault.tabulating (w .keeps .0 .applies); lower = lower }, record { old = w .keeps .1 .0; new = w .keeps .1 .1; list = z .zero });
   tidy = record { depth = x; reach = y; written = z .size };
+  tables = record { old-next = w .size-next0; old-out = w .size-out0; new-next = w .size-next1; new-out = w .size-out1 };
 }
   where
     lower : (m : ℕ) → m < k → CompareFault a b n s m → ⊥

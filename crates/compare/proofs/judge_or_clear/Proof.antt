@@ -1,6 +1,5 @@
 -- `judge_or_clear`: the tables stay beside an answer, and are cleared beside a refusal.
 use mathlib.Core.Path.{refl}
-use Rattle.simulator.proofs.Room.{zero-tables}
 use borrow.Author.Needs.{needs}
 use Rattle.compare.proofs.judge_or_clear.Statement.{statement}
 use Rattle.compare.proofs.judge_or_clear.Tie as tie
@@ -99,7 +98,7 @@ same-length-21 : tie.Need-same-length-21
 same-length-21 c = search needs
 
 returns-3 : tie.Need-returns-3
-returns-3 c = record { judges = rw (c .before .before .before .before .before .before .before .before .before .before .before .before .before .before .before .before .before .answer3 .given .1) at (c .before .before .before .before .before .before .before .before .before .before .before .before .before .before .before .before .before .before .before .before .before .before .before .before .before .judge .ensures); tables = (zero-tables (c .before .before .before .before .before .before .before .before .before .before .before .before .before .before .clear-bytes .ensures) (c .before .before .before .before .before .before .before .before .before .before .clear-bytes2 .ensures), zero-tables (c .before .before .before .before .before .before .clear-bytes3 .ensures) (c .before .before .clear-bytes4 .ensures)) }
+returns-3 c = record { judges = rw (c .before .before .before .before .before .before .before .before .before .before .before .before .before .before .before .before .before .answer3 .given .1) at (c .before .before .before .before .before .before .before .before .before .before .before .before .before .before .before .before .before .before .before .before .before .before .before .before .before .judge .ensures); tables = ((c .before .before .before .before .before .before .before .before .before .before .before .before .before .before .clear-bytes .ensures, c .before .before .before .before .before .before .before .before .before .before .clear-bytes2 .ensures), (c .before .before .before .before .before .before .clear-bytes3 .ensures, c .before .before .clear-bytes4 .ensures)) }
 
 pub judge-or-clear-spec : {M : Type 1} → statement M
 judge-or-clear-spec =

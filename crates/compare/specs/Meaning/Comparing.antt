@@ -1,11 +1,14 @@
 -- The comparison of two designs: what `compare` promises.
---   TablesLent, TablesLeft   lengths of the four table slices at entry, and what they hold at exit
+--   TablesLent, TablesLeft   lengths of the four table slices at entry, and what they hold at exit; tablesLent and tablesLeft make them
 --   CompareFault a b n s k   number k applies to comparing a and b with table slices of lengths n and other slices of lengths s
 --   Compared a b t e x       what the decision x leaves: the tables of both designs, and its list
 --   ClearedAll t e           what a refusal leaves: every written slice is zero
+--   TablesKept n t           every table slice is as long as it was
 --   Compares a b n s t e r   such a call: the slices are left as t and e, and r is the answer
 use Prim.Native.Nat.{ℕ, _<_, min}
+use mathlib.Core.Path.{_≡_}
 use mathlib.Core.List.{List}
+use lib.ListN.{length}
 use Rattle.memory.specs.Meaning.Refusals.{Keeps}
 use Rattle.memory.specs.Meaning.Slices.{Zero}
 use Rattle.netlist.specs.declared.Design.{Design}
@@ -52,6 +55,14 @@ pub record ClearedAll (t : TablesLeft) (e : Left) : Type 0 where
   pub new : ZeroTables (t .new-next) (t .new-out)
   pub list : Zero (e .written)
 
+-- every table slice is as long as it was
+pub record TablesKept (n : TablesLent) (t : TablesLeft) : Type 0 where
+  pub old-next : length (t .old-next) ≡ n .old-next
+  pub old-out : length (t .old-out) ≡ n .old-out
+  pub new-next : length (t .new-next) ≡ n .new-next
+  pub new-out : length (t .new-out) ≡ n .new-out
+
 pub record Compares (a b : Design) (n : TablesLent) (s : Lent) (t : TablesLeft) (e : Left) (r : Verdict) : Type 0 where
   pub keeps : Keeps (CompareFault a b n s) (Compared a b t e) (ClearedAll t e) (reply r)
   pub tidy : Tidy s e
+  pub tables : TablesKept n t
