@@ -1,0 +1,80 @@
+-- The images of the sheet, computed.
+use Prim.Native.Nat.{ℕ, _-_}
+use mathlib.Core.Path.{refl}
+use mathlib.Core.Logic.{inl}
+use mathlib.Core.Bool.{Bool, _&&_}
+use mathlib.Core.List.{List, [], _∷_}
+use native.Mathlib.Omega.{arith}
+use lib.Dec.{T, eqb, eqb→eq, lit<, lit≤}
+use Rattle.numbers.specs.Meaning.Bits.{horner}
+use Rattle.memory.specs.Meaning.Lists.{listOf}
+use Rattle.memory.specs.Meaning.Refusals.{Lowest}
+use Rattle.netlist.specs.Meaning.Gates.{truth}
+use Rattle.netlist.specs.Meaning.Loops.{Path}
+use Rattle.netlist.specs.Meaning.Nets.{settled, nextState, outputs}
+use Rattle.image.specs.Meaning.Format.{bitAt, fieldAt, decoded}
+use Rattle.image.specs.Meaning.Faults.{ImageFault}
+use Rattle.sheet.specs.Meaning.Sheet.{imageP, imageQ, imageM, imageH, imageRing, imagePad, Drawn}
+use Rattle.sheet.proofs.Testing.{every, every-at, and-left, and-right, passes, pass, fieldTests, endTests, readsNone, clean-7, clean-9, flat-free}
+
+-- a design of one input, one flip-flop and one output
+module _ (b : List ℕ) (next out : ℕ → ℕ → ℕ) where
+  abbrev stepTest : ℕ → ℕ → Bool
+  stepTest s v = eqb (next s v) (nextState (decoded b) s v) && eqb (out s v) (outputs (decoded b) s v)
+
+  abbrev drawnTests : List Bool
+  drawnTests =
+      passes (fieldTests b) ∷ passes (endTests b) ∷ every (readsNone (decoded b)) (decoded b .count)
+      ∷ eqb (decoded b .inputs) 1 ∷ eqb (decoded b .latches) 1 ∷ eqb (decoded b .outputs) 1 ∷ every (λ s. every (stepTest s) 2) 2 ∷ []
+
+  drawn : T (passes drawnTests) → Drawn b next out
+  drawn t = record {
+    accepted = flat-free b (pass drawnTests 0 t) (pass drawnTests 1 t) (pass drawnTests 2 t);
+    inputs = eqb→eq (decoded b .inputs) 1 (pass drawnTests 3 t);
+    latches = eqb→eq (decoded b .latches) 1 (pass drawnTests 4 t);
+    outputs = eqb→eq (decoded b .outputs) 1 (pass drawnTests 5 t);
+    steps = λ s v h k.
+        let u = every-at (stepTest s) 2 v (every-at (λ s. every (stepTest s) 2) 2 s (pass drawnTests 6 t) h) k in
+        record {
+          next = eqb→eq (next s v) (nextState (decoded b) s v) (and-left (eqb (next s v) (nextState (decoded b) s v)) (eqb (out s v) (outputs (decoded b) s v)) u);
+          out = eqb→eq (out s v) (outputs (decoded b) s v) (and-right (eqb (next s v) (nextState (decoded b) s v)) (eqb (out s v) (outputs (decoded b) s v)) u);
+        };
+  }
+
+pub p-drawn : Drawn imageP (λ s v. v) (λ s v. s)
+unfolding decoded fieldAt horner bitAt listOf settled truth
+p-drawn = drawn imageP (λ s v. v) (λ s v. s) tt
+
+pub q-drawn : Drawn imageQ (λ s v. 1 - v) (λ s v. 1 - s)
+unfolding decoded fieldAt horner bitAt listOf settled truth
+q-drawn = drawn imageQ (λ s v. 1 - v) (λ s v. 1 - s) tt
+
+pub m-drawn : Drawn imageM (λ s v. v) (λ s v. v)
+unfolding decoded fieldAt horner bitAt listOf settled truth
+m-drawn = drawn imageM (λ s v. v) (λ s v. v) tt
+
+pub h-drawn : Drawn imageH (λ s v. s) (λ s v. s)
+unfolding decoded fieldAt horner bitAt listOf settled truth
+h-drawn = drawn imageH (λ s v. s) (λ s v. s) tt
+
+ring-fields : T (passes (fieldTests imageRing))
+unfolding fieldAt horner bitAt
+ring-fields = tt
+
+ring-end : T (passes (endTests imageRing))
+unfolding fieldAt horner bitAt
+ring-end = tt
+
+-- cell 0 reads its own net
+pub ring-nine : Lowest (ImageFault imageRing) 9
+unfolding decoded fieldAt horner bitAt listOf
+ring-nine = record { applies = ImageFault.loop 0 (Path.one (record { from = lit< tt; to = lit< tt; by = inl refl })); lower = clean-9 imageRing ring-fields ring-end }
+
+pad-fields : T (passes (fieldTests imagePad))
+unfolding fieldAt horner bitAt
+pad-fields = tt
+
+-- the last bit is set
+pub pad-seven : Lowest (ImageFault imagePad) 7
+unfolding fieldAt horner bitAt
+pad-seven = record { applies = ImageFault.pad 31 (lit≤ tt) (lit< tt) (λ e. omega (arith, e)); lower = clean-7 imagePad pad-fields }

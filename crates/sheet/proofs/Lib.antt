@@ -1,0 +1,6 @@
+pub mod Testing
+pub mod Images
+pub mod Short
+pub mod Models
+pub mod Carried
+pub mod Sheet
