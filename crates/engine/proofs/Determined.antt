@@ -17,15 +17,15 @@ use Rattle.machine.specs.declared.Sizes.{Sizes}
 use Rattle.machine.specs.Meaning.Tables.{Tables, pairs, Flag, holds, fails, AlikeIn, AlignableIn, TraceIn, ListIn}
 use Rattle.machine.proofs.Order.{first-unique}
 use Rattle.machine.proofs.Rounds.{round-unique}
-use Rattle.search.specs.Working.{pairAt}
-use Rattle.search.proofs.Cells.{pairAt-in, at-pair}
+use Rattle.machine.specs.Working.Pairs.{pairAt}
+use Rattle.machine.proofs.Numbers.{pairAt-in, at-pair}
 use Rattle.seek.specs.Meaning.Faults.{Fault}
 use Rattle.seek.proofs.Refusals.{fault-some}
 use Rattle.engine.specs.declared.MappedAlike.{MappedAlike}
 use Rattle.engine.specs.declared.MappedAlignable.{MappedAlignable}
-use Rattle.engine.specs.Meaning.Lent.{Lent, Left, Tidy}
+use Rattle.seek.specs.Meaning.Lent.{Lent, Left, Tidy, Listed}
 use Rattle.engine.specs.Meaning.Maps.{AlikeCount, alikeReply, alignableReply, roomOf, Marks, MarksAlike, MapsAlike, MapsAlignable}
-use Rattle.engine.specs.Meaning.Pairs.{foundReply, StateFault, PairFault, Listed, Finds, FindsTrace, FindsList}
+use Rattle.engine.specs.Meaning.Pairs.{foundReply, StateFault, PairFault, Finds, FindsTrace, FindsList}
 
 -- no reason has a number below 11
 pub alike-not-zero : {t : Tables} {s : Lent} {e : Left} → MapsAlike t s e (MappedAlike.Refused 0) → ⊥

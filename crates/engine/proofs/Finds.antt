@@ -15,8 +15,8 @@ use Rattle.machine.specs.Meaning.Tables.{Tables, In}
 use Rattle.seek.specs.Meaning.Faults.{Fault}
 use Rattle.seek.specs.Working.Steps.{Outcome, missing, short, steps}
 use Rattle.seek.proofs.Refusals.{fault-most}
-use Rattle.engine.specs.Meaning.Lent.{Lent}
-use Rattle.engine.specs.Meaning.Pairs.{foundReply, StateFault, PairFault, Listed}
+use Rattle.seek.specs.Meaning.Lent.{Lent, Listed}
+use Rattle.engine.specs.Meaning.Pairs.{foundReply, StateFault, PairFault}
 
 -- 11 to 14
 module _ {t : Tables} {room : ℕ} {p : Pair} where

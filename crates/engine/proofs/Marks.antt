@@ -14,7 +14,7 @@ use Rattle.machine.specs.Meaning.Tables.{Tables, pairs, number, at, In, Ok, Fla
 use Rattle.machine.specs.Working.Pairs.{DiffersIn}
 use Rattle.machine.proofs.Rounds.{first-unchanged}
 use Rattle.search.specs.Working.{Flagged}
-use Rattle.search.proofs.Cells.{number-in}
+use Rattle.machine.proofs.Numbers.{number-in}
 use Rattle.seek.specs.Working.Steps.{Good, MapFor, MapOf}
 use Rattle.seek.proofs.Sets.{flag-is, alike-of-zero, zero-of-alike}
 use Rattle.engine.specs.Meaning.Maps.{Marks}

@@ -1,4 +1,3 @@
 -- What has to be believed: the definitions that public contracts cite.
-pub mod Lent
 pub mod Maps
 pub mod Pairs

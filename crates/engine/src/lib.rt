@@ -1,13 +1,13 @@
 // The maps of alike and of alignable pairs, and the trace or list of one pair. Every call first takes the lengths of the slices that it
 // is lent and looks for what turns it away, then clears them, and leaves its scratch slices all zero.
-ghost use Prim.Native.Nat.{_≤_};
+ghost use Prim.Native.Nat.{_≤_, min};
 ghost use lib.ListN.{length};
 ghost use Rattle.memory.specs.Meaning.Refusals.{Free, LowestOrNone};
 ghost use Rattle.memory.specs.Meaning.Slices.{Zero, Cleared};
 ghost use Rattle.machine.specs.Meaning.Tables.{tables, pairs, In, AlikeIn, AlignableIn, TraceIn, ListIn};
 ghost use Rattle.seek.specs.Meaning.Faults.{Fault};
 ghost use Rattle.seek.specs.Working.Steps.{Good, Outcome};
-ghost use Rattle.engine.specs.Meaning.Lent.{lent, left};
+ghost use Rattle.seek.specs.Meaning.Lent.{lent, left};
 ghost use Rattle.engine.specs.Meaning.Maps.{roomOf, MapsAlike, MapsAlignable};
 ghost use Rattle.engine.specs.Meaning.Pairs.{StateFault, FindsTrace, FindsList};
 ghost use Rattle.engine.specs.Working.Clearing.{Emptied};
@@ -40,9 +40,16 @@ pub fn map_alike(
 ) -> MappedAlike
     ensures { λ r. ⌜ MapsAlike (tables sizes (now («old_next» .entry)) (now («old_out» .entry)) (now («new_next» .entry)) (now («new_out» .entry))) (lent (length (now (depth .entry))) (length (now (reach .entry))) (length (now (mark .entry)))) (left (now (depth .exit)) (now (reach .exit)) (now (mark .exit))) r ⌝ }
 {
-    let room = memory::shorter(mark.len(), memory::shorter(depth.len(), reach.len()));
-    let n = seek::call_fault(old_next, old_out, new_next, new_out, sizes, room);
-    clear_lent(depth, reach, mark);
+    let n = open_map(
+        old_next,
+        old_out,
+        new_next,
+        new_out,
+        sizes,
+        depth,
+        reach,
+        mark,
+    );
     if n != 0 {
         return MappedAlike::Refused(n);
     }
@@ -71,9 +78,16 @@ pub fn map_alignable(
 ) -> MappedAlignable
     ensures { λ r. ⌜ MapsAlignable (tables sizes (now («old_next» .entry)) (now («old_out» .entry)) (now («new_next» .entry)) (now («new_out» .entry))) (lent (length (now (depth .entry))) (length (now (reach .entry))) (length (now (mark .entry)))) (left (now (depth .exit)) (now (reach .exit)) (now (mark .exit))) r ⌝ }
 {
-    let room = memory::shorter(mark.len(), memory::shorter(depth.len(), reach.len()));
-    let n = seek::call_fault(old_next, old_out, new_next, new_out, sizes, room);
-    clear_lent(depth, reach, mark);
+    let n = open_map(
+        old_next,
+        old_out,
+        new_next,
+        new_out,
+        sizes,
+        depth,
+        reach,
+        mark,
+    );
     if n != 0 {
         return MappedAlignable::Refused(n);
     }
@@ -103,9 +117,17 @@ pub fn trace_of(
 ) -> Found
     ensures { λ r. ⌜ FindsTrace (tables sizes (now («old_next» .entry)) (now («old_out» .entry)) (now («new_next» .entry)) (now («new_out» .entry))) (lent (length (now (depth .entry))) (length (now (reach .entry))) (length (now (list .entry)))) pair (left (now (depth .exit)) (now (reach .exit)) (now (list .exit))) r ⌝ }
 {
-    let room = memory::shorter(depth.len(), reach.len());
-    let n = pair_fault(old_next, old_out, new_next, new_out, sizes, pair, room);
-    clear_lent(depth, reach, list);
+    let n = open_pair(
+        old_next,
+        old_out,
+        new_next,
+        new_out,
+        sizes,
+        pair,
+        depth,
+        reach,
+        list,
+    );
     if n != 0 {
         return Found::Refused(n);
     }
@@ -135,9 +157,17 @@ pub fn list_of(
 ) -> Found
     ensures { λ r. ⌜ FindsList (tables sizes (now («old_next» .entry)) (now («old_out» .entry)) (now («new_next» .entry)) (now («new_out» .entry))) (lent (length (now (depth .entry))) (length (now (reach .entry))) (length (now (list .entry)))) pair (left (now (depth .exit)) (now (reach .exit)) (now (list .exit))) r ⌝ }
 {
-    let room = memory::shorter(depth.len(), reach.len());
-    let n = pair_fault(old_next, old_out, new_next, new_out, sizes, pair, room);
-    clear_lent(depth, reach, list);
+    let n = open_pair(
+        old_next,
+        old_out,
+        new_next,
+        new_out,
+        sizes,
+        pair,
+        depth,
+        reach,
+        list,
+    );
     if n != 0 {
         return Found::Refused(n);
     }
@@ -154,13 +184,62 @@ pub fn list_of(
     )
 }
 
+// Begins a map: the lowest number that turns it away, or 0, and every lent slice cleared.
+fn open_map(
+    old_next: &[u8],
+    old_out: &[u8],
+    new_next: &[u8],
+    new_out: &[u8],
+    sizes: Sizes,
+    depth: &mut [u16],
+    reach: &mut [u16],
+    mark: &mut [u8],
+) -> u8
+    ensures { λ r. ⌜ LowestOrNone (Fault (tables sizes (now («old_next» .entry)) (now («old_out» .entry)) (now («new_next» .entry)) (now («new_out» .entry))) (roomOf (lent (length (now (depth .entry))) (length (now (reach .entry))) (length (now (mark .entry)))))) r ⌝ }
+    ensures { λ r. ⌜ Emptied (lent (length (now (depth .entry))) (length (now (reach .entry))) (length (now (mark .entry)))) (left (now (depth .exit)) (now (reach .exit)) (now (mark .exit))) ⌝ }
+{
+    let room = memory::shorter(mark.len(), memory::shorter(depth.len(), reach.len()));
+    let n = seek::call_fault(old_next, old_out, new_next, new_out, sizes, room);
+    clear_lent(depth, reach, mark);
+    n
+}
+
+// Begins a call for a pair: the lowest of 11 to 14 that turns it away, or 0, and every lent slice cleared.
+fn open_pair(
+    old_next: &[u8],
+    old_out: &[u8],
+    new_next: &[u8],
+    new_out: &[u8],
+    sizes: Sizes,
+    pair: Pair,
+    depth: &mut [u16],
+    reach: &mut [u16],
+    list: &mut [u8],
+) -> u8
+    ensures { λ r. ⌜ LowestOrNone (StateFault (tables sizes (now («old_next» .entry)) (now («old_out» .entry)) (now («new_next» .entry)) (now («new_out» .entry))) (min (length (now (depth .entry))) (length (now (reach .entry)))) pair) r ⌝ }
+    ensures { λ r. ⌜ Emptied (lent (length (now (depth .entry))) (length (now (reach .entry))) (length (now (list .entry)))) (left (now (depth .exit)) (now (reach .exit)) (now (list .exit))) ⌝ }
+{
+    let room = memory::shorter(depth.len(), reach.len());
+    let n = pair_fault(old_next, old_out, new_next, new_out, sizes, pair, room);
+    clear_lent(depth, reach, list);
+    n
+}
+
 // Every lent slice becomes 0 throughout.
 fn clear_lent(depth: &mut [u16], reach: &mut [u16], written: &mut [u8])
     ensures { λ _. ⌜ Emptied (lent (length (now (depth .entry))) (length (now (reach .entry))) (length (now (written .entry)))) (left (now (depth .exit)) (now (reach .exit)) (now (written .exit))) ⌝ }
 {
+    clear_scratch(depth, reach);
+    memory::clear_bytes(written);
+}
+
+// Both scratch slices become 0 throughout.
+fn clear_scratch(depth: &mut [u16], reach: &mut [u16])
+    ensures { λ _. ⌜ Cleared (length (now (depth .entry))) (now (depth .exit)) ⌝ }
+    ensures { λ _. ⌜ Cleared (length (now (reach .entry))) (now (reach .exit)) ⌝ }
+{
     memory::clear_numbers(depth);
     memory::clear_numbers(reach);
-    memory::clear_bytes(written);
 }
 
 // Marks the alike pairs in a cleared mark slice, and clears scratch.
@@ -182,8 +261,7 @@ fn mark_alike(
     let end = search::total(sizes);
     search::aligned_start(depth, end, reach);
     let count = search::mark_positive(reach, end, mark);
-    memory::clear_numbers(depth);
-    memory::clear_numbers(reach);
+    clear_scratch(depth, reach);
     MappedAlike::Marked { count, round }
 }
 
@@ -205,8 +283,7 @@ fn mark_alignable(
     seek::map_both(old_next, old_out, new_next, new_out, sizes, depth, reach);
     let end = search::total(sizes);
     let count = search::mark_positive(reach, end, mark);
-    memory::clear_numbers(depth);
-    memory::clear_numbers(reach);
+    clear_scratch(depth, reach);
     MappedAlignable::Marked(count)
 }
 
@@ -297,7 +374,6 @@ fn write_list(
         reach,
         list,
     );
-    memory::clear_numbers(depth);
-    memory::clear_numbers(reach);
+    clear_scratch(depth, reach);
     found
 }

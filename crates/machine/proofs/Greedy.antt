@@ -8,7 +8,7 @@ use native.Mathlib.Nat.{suc-inj}
 use native.Mathlib.Decide.{ℕ-discrete}
 use lib.ListN.{length}
 use Rattle.numbers.proofs.Order.{tri, zero-or}
-use Rattle.numbers.proofs.Search.{Least, least}
+use Rattle.numbers.proofs.Search.{Least, least, dec-and}
 use Rattle.machine.specs.Meaning.Lists.{Before, shorter, lower, First, Leads}
 use Rattle.machine.specs.Working.Maps.{Dist, Complete, LowestTo}
 use Rattle.machine.proofs.Lists.{leads-cons, leads-tail}
@@ -73,12 +73,7 @@ module _ {X : Type 0} (step : X → ℕ → X) (Ok : ℕ → Type 0) (Goal : X �
   Down x k v = Ok v × (m (step x v) ≡ suc k)
 
   dec-down : (x : X) (k v : ℕ) → Dec (Down x k v)
-  dec-down x k v = go (allowed v) (ℕ-discrete (m (step x v)) (suc k))
-    where
-      go : Dec (Ok v) → Dec (m (step x v) ≡ suc k) → Dec (Down x k v)
-      go (yes a) (yes b) = yes (a, b)
-      go (yes a) (no b) = no (λ d. b (d .1))
-      go (no a) b = no (λ d. a (d .0))
+  dec-down x k v = dec-and (allowed v) (ℕ-discrete (m (step x v)) (suc k))
 
   lowest-to : (x : X) → In x → (k : ℕ) → m x ≡ suc (suc k) → (v : ℕ) × LowestTo step Ok In m (suc k) x v
   lowest-to x i k e = pick (least (Down x k) (dec-down x k) nv) (c .dist x i (suc k) e)

@@ -5,3 +5,10 @@ pub mod Greedy
 pub mod Pairs
 pub mod Traces
 pub mod Rounds
+pub mod Numbers
+pub mod Finding
+pub mod Telling
+pub mod Verdict
+pub mod Ending
+pub mod Written
+pub mod Transfer

@@ -2,15 +2,20 @@
 use mathlib.Core.Path.{_≡_, refl}
 use mathlib.Core.Logic.{inl, inr}
 use mathlib.Core.List.{List, [], _∷_, _++_}
-use Prim.Native.Nat.{ℕ, zero, suc, _≤_}
+use Prim.Native.Nat.{ℕ, zero, suc, _<_, _≤_}
 use native.Mathlib.Omega.{arith}
-use lib.ListN.{length}
+use lib.ListN.{length, getD}
 use Rattle.machine.specs.Meaning.Lists.{Each, First, run, Leads}
 use Rattle.machine.specs.Working.Maps.{Dist, Complete, Within, Grown, FirstStill}
 
 pub each-append : (Ok : ℕ → Type 0) (a b : List ℕ) → Each Ok a → Each Ok b → Each Ok (a ++ b)
 each-append Ok [] b p q = q
 each-append Ok (v ∷ a) b p q = (p .0, each-append Ok a b (p .1) q)
+
+pub each-at : (Ok : ℕ → Type 0) (l : List ℕ) (i : ℕ) → Each Ok l → i < length l → Ok (getD l i 0)
+each-at Ok [] i o h = absurd (omega arith)
+each-at Ok (v ∷ l) zero o h = o .0
+each-at Ok (v ∷ l) (suc i) o h = each-at Ok l i (o .1) (omega arith)
 
 pub run-append : {X : Type 0} (f : X → ℕ → X) (x : X) (a b : List ℕ) → run f x (a ++ b) ≡ run f (run f x a) b
 run-append f x [] b = refl

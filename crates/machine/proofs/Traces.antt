@@ -38,10 +38,10 @@ module _ (m0 m1 : Machine) (Ok : ℕ → Type 0) where
     each : Each Ok (w .before ++ (w .last ∷ []))
     each = subst (Each Ok) (w .splits) (w .allowed)
 
-    before-ok : Each Ok (w .before)
+    pub before-ok : Each Ok (w .before)
     before-ok = each-front Ok (w .before) (w .last ∷ []) each
 
-    last-ok : Ok (w .last)
+    pub last-ok : Ok (w .last)
     last-ok = each-back Ok (w .before) (w .last ∷ []) each .0
 
     into : Leads (step m0 m1) Ok (Different m0 m1 Ok) p (w .before)

@@ -38,13 +38,18 @@ lowest-unique {n = n} {m} p q = go (tri n m)
     go (inr (inr h)) = absurd (p .lower m h (q .applies))
 
 -- where no two answers are right, and each fixes what it leaves behind, no two replies keep one promise, and both leave the same
+pub kept-unique : {A L : Type 0} (P : ℕ → Type 0) (Answers : L → A → Type 0) (Cleared : L → Type 0) (l k : L)
+    → (Free P → (a b : A) → Answers l a → Answers k b → (a ≡ b) × (l ≡ k)) → (Cleared l → Cleared k → l ≡ k)
+    → (r t : Reply A) → Keeps P (Answers l) (Cleared l) r → Keeps P (Answers k) (Cleared k) t → (r ≡ t) × (l ≡ k)
+kept-unique P Answers Cleared l k one clear (answer a) (answer b) p q = let e = one (p .0) a b (p .1) (q .1) in let f = e .0 in (cc, e .1)
+kept-unique P Answers Cleared l k one clear (answer a) (refusal m) p q = absurd (p .0 m (q .0 .applies))
+kept-unique P Answers Cleared l k one clear (refusal n) (answer b) p q = absurd (q .0 n (p .0 .applies))
+kept-unique P Answers Cleared l k one clear (refusal n) (refusal m) p q = let e = lowest-unique (p .0) (q .0) in (cc, clear (p .1) (q .1))
+
 pub keeps-unique : {A L : Type 0} (P : ℕ → Type 0) (Answers : L → A → Type 0) (Cleared : L → Type 0) (l k : L)
     → ((a b : A) → Answers l a → Answers k b → (a ≡ b) × (l ≡ k)) → (Cleared l → Cleared k → l ≡ k)
     → (r t : Reply A) → Keeps P (Answers l) (Cleared l) r → Keeps P (Answers k) (Cleared k) t → (r ≡ t) × (l ≡ k)
-keeps-unique P Answers Cleared l k one clear (answer a) (answer b) p q = let e = one a b (p .1) (q .1) in let f = e .0 in (cc, e .1)
-keeps-unique P Answers Cleared l k one clear (answer a) (refusal m) p q = absurd (p .0 m (q .0 .applies))
-keeps-unique P Answers Cleared l k one clear (refusal n) (answer b) p q = absurd (q .0 n (p .0 .applies))
-keeps-unique P Answers Cleared l k one clear (refusal n) (refusal m) p q = let e = lowest-unique (p .0) (q .0) in (cc, clear (p .1) (q .1))
+keeps-unique P Answers Cleared l k one clear = kept-unique P Answers Cleared l k (λ f. one) clear
 
 pub reply-unique : {A : Type 0} (P : ℕ → Type 0) (Answers : A → Type 0) (Cleared : Type 0)
     → ((a b : A) → Answers a → Answers b → a ≡ b)
@@ -82,6 +87,15 @@ module _ (P Q R : ℕ → Type 0) (one : (n : ℕ) → P n → R n) (two : (n : 
 
   right-only : {n : ℕ} → Free P → Lowest Q n → Lowest R n
   right-only {n} f l = record { applies = two n (l .applies); lower = λ m h r. ⊎-elim (λ p. f m p) (λ q. l .lower m h q) (either m r) }
+
+  -- P is looked for first, and every number of Q is higher
+  pub lowest-first : {n : ℕ} → Lowest P n → ((m : ℕ) → Q m → n ≤ m) → Lowest R n
+  lowest-first {n} l above = record { applies = one n (l .applies); lower = λ m h r. ⊎-elim (λ p. l .lower m h p) (λ q. omega (arith, above m q)) (either m r) }
+
+  -- nothing has P, so a reply that is right of Q is right
+  pub keeps-second : {A : Type 0} (Answers : A → Type 0) (Cleared : Type 0) → Free P → (r : Reply A) → Keeps Q Answers Cleared r → Keeps R Answers Cleared r
+  keeps-second Answers Cleared f (answer a) k = (λ n r. ⊎-elim (λ p. f n p) (λ q. k .0 n q) (either n r), k .1)
+  keeps-second Answers Cleared f (refusal n) k = (right-only f (k .0), k .1)
 
   lower-of : (a b : ℕ) → Lowest P a → Lowest Q b → Lowest R (min a b)
   lower-of a b p q = go (tri a b)

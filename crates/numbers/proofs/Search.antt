@@ -37,12 +37,24 @@ module _ (P : ℕ → Type 0) (dec : (i : ℕ) → Dec (P i)) where
       go (inr f) (yes p) = inl (record { at = n; under = omega arith; has = p; none = f })
       go (inr f) (no q) = inr (λ i h p. ⊎-elim (λ k. f i k p) (λ r. ⊎-elim (λ e. q (subst P e p)) (λ k. omega arith) r) (tri i n))
 
+  pub dec-least : (n : ℕ) → Dec (Least n)
+  dec-least n = ⊎-elim (λ l. yes l) (λ f. no (λ l. f (l .at) (l .under) (l .has))) (least n)
+
   pub dec-none : (n : ℕ) → Dec ((i : ℕ) → i < n → P i → ⊥)
   dec-none n = ⊎-elim (λ l. no (λ f. f (l .at) (l .under) (l .has))) (λ f. yes f) (least n)
 
 pub dec-not : {A : Type 0} → Dec A → Dec (A → ⊥)
 dec-not (yes a) = no (λ f. f a)
 dec-not (no n) = yes n
+
+pub dec-and : {A B : Type 0} → Dec A → Dec B → Dec (A × B)
+dec-and (yes a) (yes b) = yes (a, b)
+dec-and (yes a) (no n) = no (λ d. n (d .1))
+dec-and (no n) b = no (λ d. n (d .0))
+
+pub dec-T : (b : Bool) → Dec (T b)
+dec-T true = yes tt
+dec-T false = no (λ t. t)
 
 pub dec-stable : {A : Type 0} → Dec A → ((A → ⊥) → ⊥) → A
 dec-stable (yes a) f = a

@@ -2,13 +2,12 @@
 use mathlib.Core.Path.{_≡_, sym, ap, _∙_}
 use mathlib.Core.Bool.{not}
 use mathlib.Core.List.{List}
-use Prim.Native.Nat.{ℕ, zero, suc, _<_, _≤_, _+_, _*_}
+use Prim.Native.Nat.{ℕ, _<_, _≤_, _+_, _*_}
 use native.Mathlib.Omega.{arith}
-use native.Mathlib.Nat.{mul-le-mul, div-add-mod', div-lt-iff-lt-mul, mod-lt}
-use lib.Arith.{digits-lt, digits-div, digits-mod}
+use native.Mathlib.Nat.{mul-le-mul}
+use lib.Arith.{digits-lt}
 use lib.Dec.{eqb}
 use borrow.Author.Count.{below-more}
-use lib.ListN.{getD}
 use borrow.Author.Tests.{eqb-true, eqb-false, not-true, not-false}
 use Rattle.machine.specs.declared.Pair.{Pair}
 use Rattle.machine.specs.declared.Sizes.{Sizes}
@@ -16,7 +15,7 @@ use Rattle.machine.specs.Meaning.Tables.{entry, pairs, number, at, In, Ok}
 use Rattle.machine.specs.Working.Pairs.{Differs}
 use Rattle.memory.specs.Working.Tests.{Tells}
 use Rattle.memory.proofs.Tests.{tells-of}
-use Rattle.search.specs.Working.{move, pairAt, Few, Nexts, To, Different, LowestBelow, NoneBelow}
+use Rattle.search.specs.Working.{move, Few, Nexts, To, Different, LowestBelow, NoneBelow}
 
 pub cell-small : (s v n m : ℕ) → s < n → v < m → n ≤ 128 → m ≤ 128 → s * m + v < 16384
 cell-small s v n m a b c d = omega (arith, digits-lt {q = s} {m = n} {r = v} {c = m} a b, mul-le-mul c d)
@@ -24,32 +23,10 @@ cell-small s v n m a b c d = omega (arith, digits-lt {q = s} {m = n} {r = v} {c 
 pub row-small : (s n m : ℕ) → s < n → n ≤ 128 → m ≤ 128 → s * m ≤ 16384
 row-small s n m a c d = omega (arith, mul-le-mul {n₁ = s} {n₂ = 128} (omega arith) d)
 
-pub second-pos : (i a b : ℕ) → i < a * b → 0 < b
-second-pos i a zero h = omega arith
-second-pos i a (suc b) h = omega arith
-
 pub few-pairs : {z : Sizes} → Few z → pairs z ≤ 16384
 few-pairs f = mul-le-mul (f .few-old) (f .few-new)
 
-pub same-pair : {a b c d : ℕ} → a ≡ c → b ≡ d → _≡_ {A = Pair} (record { old = a; new = b }) (record { old = c; new = d })
-same-pair p q = λ j. record { old = p j; new = q j }
-
 module _ (z : Sizes) where
-  pub pair-number : (p : Pair) → In z p → pairAt z (number z p) ≡ p
-  pair-number p h = same-pair (digits-div (p .old) (h .in-new)) (digits-mod (p .old) (h .in-new))
-
-  pub number-pair : (i : ℕ) → number z (pairAt z i) ≡ i
-  number-pair i = div-add-mod' i (z .new)
-
-  pub number-in : (p : Pair) → In z p → number z p < pairs z
-  number-in p h = digits-lt (h .in-old) (h .in-new)
-
-  pub pairAt-in : (i : ℕ) → i < pairs z → In z (pairAt z i)
-  pairAt-in i h = let p = second-pos i (z .old) (z .new) h in record { in-old = div-lt-iff-lt-mul p .1 h; in-new = mod-lt i p }
-
-  pub at-pair : (d : List ℕ) (i : ℕ) → at z d (pairAt z i) ≡ getD d i 0
-  at-pair d i = ap (λ (x : ℕ). getD d x 0) (number-pair i)
-
   pub closed : {next0 next1 : List ℕ} → Nexts z next0 next1 → (p : Pair) (v : ℕ) → In z p → Ok z v → In z (move z next0 next1 p v)
   closed w p v i o = record {
     in-old = w .next-old (p .old * z .vectors + v) (digits-lt (i .in-old) (o .below));

@@ -14,8 +14,10 @@ use Rattle.numbers.specs.Meaning.Count.{countOf}
 use Rattle.machine.specs.Working.Maps.{Right, Grown}
 use Rattle.numbers.proofs.Counting.{count-le, count-witness}
 use Rattle.machine.proofs.Maps.{right-start, right-more, complete, moved, unmoved}
-use Rattle.search.specs.Working.{move, pairAt, Nexts, Ones, Rounded, Searched}
-use Rattle.search.proofs.Cells.{closed, number-in, pairAt-in, at-pair}
+use Rattle.search.specs.Working.{move, Nexts, Ones, Rounded, Searched}
+use Rattle.machine.specs.Working.Pairs.{pairAt}
+use Rattle.machine.proofs.Numbers.{number-in, pairAt-in, at-pair}
+use Rattle.search.proofs.Cells.{closed}
 
 module _ (z : Sizes) (next0 next1 d₀ : List ℕ) where
   -- k - 1 rounds are done, and each of them changed the map

@@ -13,8 +13,9 @@ use Rattle.machine.specs.declared.Sizes.{Sizes}
 use Rattle.machine.specs.Meaning.Tables.{pairs, number, at, In, Ok}
 use Rattle.machine.specs.Working.Maps.{Round}
 use Rattle.numbers.proofs.Order.{tri}
-use Rattle.search.specs.Working.{move, pairAt, To, Visited, kept, none, fresh}
-use Rattle.search.proofs.Cells.{pair-number, number-in}
+use Rattle.search.specs.Working.{move, To, Visited, kept, none, fresh}
+use Rattle.machine.specs.Working.Pairs.{pairAt}
+use Rattle.machine.proofs.Numbers.{pair-number, number-in}
 
 module _ (z : Sizes) (next0 next1 : List ℕ) (k : ℕ) (d₀ : List ℕ) where
   -- a vector leads from the pair numbered q to k

@@ -1,7 +1,6 @@
 -- What the helpers of the search promise each other. z are the sizes, next0 and next1 the tables of next states, out0 and out1 those
 -- of outputs, d and d′ a map before and after.
 --   move z next0 next1 p v   the pair after one step of both designs
---   pairAt z i               the pair that has number i
 --   Few z                    the sizes are within the engine's limits
 --   Nexts, Outs, Walk        tables and map are long enough, and tables lead to states
 --   Cell s v n m r           r is the place of column v in row s of a table of n rows of m columns
@@ -20,7 +19,7 @@
 use mathlib.Core.Path.{_≡_}
 use mathlib.Core.Bool.{Bool, true, false}
 use mathlib.Core.List.{List}
-use Prim.Native.Nat.{ℕ, _<_, _≤_, _+_, _-_, _*_, _/_, _%_}
+use Prim.Native.Nat.{ℕ, _<_, _≤_, _+_, _-_, _*_}
 use lib.ListN.{length, getD, set, take}
 use Rattle.numbers.specs.Meaning.Count.{countOf}
 use Rattle.machine.specs.declared.Pair.{Pair}
@@ -28,13 +27,10 @@ use Rattle.machine.specs.declared.Sizes.{Sizes}
 use Rattle.machine.specs.Meaning.Lists.{First, run, Leads}
 use Rattle.machine.specs.Meaning.Tables.{entry, pairs, number, at, In, Ok, Flag}
 use Rattle.machine.specs.Working.Maps.{Complete, Round, FirstStill}
-use Rattle.machine.specs.Working.Pairs.{Differs}
+use Rattle.machine.specs.Working.Pairs.{pairAt, Differs}
 
 abbrev pub move : Sizes → List ℕ → List ℕ → Pair → ℕ → Pair
 move z next0 next1 p v = record { old = entry z next0 (p .old) v; new = entry z next1 (p .new) v }
-
-abbrev pub pairAt : Sizes → ℕ → Pair
-pairAt z i = record { old = i / z .new; new = i % z .new }
 
 pub record Few (z : Sizes) : Type 0 where
   pub few-old : z .old ≤ 128

@@ -4,9 +4,10 @@ ghost use mathlib.Core.Path.{_≡_};
 ghost use Prim.Native.Nat.{ℕ, _+_, _-_, _*_, _<_, _≤_};
 ghost use lib.ListN.{length, getD};
 ghost use Rattle.machine.specs.Meaning.Tables.{pairs, number, at, In};
+ghost use Rattle.machine.specs.Working.Pairs.{pairAt};
 ghost use Rattle.numbers.specs.Meaning.Count.{countOf};
 ghost use Rattle.memory.specs.Working.Tests.{Tells};
-ghost use Rattle.search.specs.Working.{Few, Nexts, Outs, Cell, LowestBelow, To, Different, DiffersAt, Flagged, Visited, Rounded, Walk, Ready, Searched, Descent, Descended, move, pairAt};
+ghost use Rattle.search.specs.Working.{Few, Nexts, Outs, Cell, LowestBelow, To, Different, DiffersAt, Flagged, Visited, Rounded, Walk, Ready, Searched, Descent, Descended, move};
 use machine::Pair;
 use machine::Sizes;
 
@@ -234,14 +235,14 @@ pub fn different_vector(old_out: &[u8], new_out: &[u8], sizes: Sizes, p: Pair) -
     requires { ⌜ In sizes p ⌝ }
     ensures { λ r. ⌜ LowestBelow (Different sizes (now («old_out» .entry)) (now («new_out» .entry)) p) (sizes .vectors) r ⌝ }
 {
-    let mut v = 0;
-    while v < sizes.vectors {
-        if shows(old_out, new_out, sizes, p, v) {
-            return v;
+    let mut vector = 0;
+    while vector < sizes.vectors {
+        if shows(old_out, new_out, sizes, p, vector) {
+            return vector;
         }
-        v += 1;
+        vector += 1;
     }
-    v
+    vector
 }
 
 // The map becomes 1 where some vector shows different outputs, and 0 elsewhere.

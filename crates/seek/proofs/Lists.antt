@@ -13,12 +13,14 @@ use Rattle.machine.specs.Meaning.Lists.{First, Leads, run}
 use Rattle.machine.specs.Meaning.Machine.{SameOut}
 use Rattle.machine.specs.Meaning.Tables.{Tables, at, In, Ok, entry, oldMachine, newMachine, AlikeIn, AlignableIn, TraceIn, ListIn}
 use Rattle.machine.specs.Working.Pairs.{LowestDifferent, DiffersIn, stepIn}
-use Rattle.numbers.proofs.Search.{Least, least, dec-not, dec-stable}
+use Rattle.numbers.proofs.Search.{dec-stable}
 use Rattle.machine.proofs.Lists.{complete-there, first-there}
 use Rattle.numbers.proofs.Order.{zero-or}
 use Rattle.machine.proofs.Maps.{goal-of-one, one-of-goal}
 use Rattle.machine.proofs.Greedy.{first-exists, first-length}
 use Rattle.machine.proofs.Traces.{trace-of-first}
+use Rattle.machine.proofs.Numbers.{allowed}
+use Rattle.machine.proofs.Telling.{some-lowest}
 use Rattle.search.specs.Working.{Ones, Ready, Different, LowestBelow, Descended}
 use Rattle.machine.specs.declared.Found.{Found}
 use Rattle.seek.specs.Working.Steps.{Good, MapFor, Outcome, missing, short, steps}
@@ -27,13 +29,6 @@ use Rattle.seek.proofs.Sets.{inside, alike-of-zero, zero-of-alike}
 module _ (t : Tables) (g : Good t) where
   abbrev z : Sizes
   z = t .sizes
-
-  allowed : (v : ℕ) → Dec (Ok z v)
-  allowed v = go (decLt v (z .vectors))
-    where
-      go : Dec (v < z .vectors) → Dec (Ok z v)
-      go (yes h) = yes (record { below = h })
-      go (no h) = no (λ o. h (o .below))
 
   module _ {Goal : Pair → Type 0} {d : List ℕ} (m : MapFor t Goal d) where
     pub ready : Ready z (t .old-next) (t .new-next) d
@@ -45,7 +40,7 @@ module _ (t : Tables) (g : Good t) where
     -- what the map reaches has a first list, as long as the map says
     pub first-of : (p : Pair) → In z p → (k : ℕ) → at z d p ≡ suc k → (l : List ℕ) × First (Leads (stepIn t) (Ok z) Goal p) l × (length l ≡ k)
     first-of p i k e =
-        let x = first-exists (stepIn t) (Ok z) Goal (In z) (inside t g) (at z d) (m .map) (z .vectors) (λ v o. o .below) allowed k p i e in
+        let x = first-exists (stepIn t) (Ok z) Goal (In z) (inside t g) (at z d) (m .map) (z .vectors) (λ v o. o .below) (allowed z) k p i e in
         (x .0, x .1, first-length (stepIn t) (Ok z) Goal p (x .0) k (x .1) (m .map .dist p i k e))
 
   -- the lowest vector that shows different outputs
@@ -63,14 +58,6 @@ module _ (t : Tables) (g : Good t) where
       go (yes h) = h
       go (no h) = absurd (w .below (d .vector) (omega (arith, d .allowed .below)) (record { differs = d .differs }))
 
-  some-lowest : (q : Pair) → DiffersIn t q → (v : ℕ) × LowestDifferent (oldMachine t) (newMachine t) (Ok z) q v
-  some-lowest q d = pick (least (λ v. SameOut (oldMachine t) (newMachine t) q v → ⊥) (λ v. dec-not (ℕ-discrete (entry z (t .old-out) (q .old) v) (entry z (t .new-out) (q .new) v))) (z .vectors))
-    where
-      pick : Least (λ v. SameOut (oldMachine t) (newMachine t) q v → ⊥) (λ v. dec-not (ℕ-discrete (entry z (t .old-out) (q .old) v) (entry z (t .new-out) (q .new) v))) (z .vectors) ⊎ ((v : ℕ) → v < z .vectors → (SameOut (oldMachine t) (newMachine t) q v → ⊥) → ⊥)
-          → (v : ℕ) × LowestDifferent (oldMachine t) (newMachine t) (Ok z) q v
-      pick (inl l) = (l .at, record { ok = record { below = l .under }; differs = l .has; below = λ x h o. dec-stable (ℕ-discrete (entry z (t .old-out) (q .old) x) (entry z (t .new-out) (q .new) x)) (λ n. l .none x h n) })
-      pick (inr f) = absurd (f (d .vector) (d .allowed .below) (d .differs))
-
   long-snoc : (a : List ℕ) (x : ℕ) → length (a ++ (x ∷ [])) ≡ length a + 1
   long-snoc a x = length-append a (x ∷ [])
 
@@ -87,7 +74,7 @@ module _ (t : Tables) (g : Good t) where
       where
         go : (k : ℕ) → at z d p ≡ suc k → (l : List ℕ) × First (Leads (stepIn t) (Ok z) (DiffersIn t) p) l × (length l ≡ k) → Outcome (AlikeIn t p) (TraceIn t p) list list (Found.Refused 16)
         go k q x =
-            let v = some-lowest (run (stepIn t) p (x .0)) (x .1 .has .ends) in
+            let v = some-lowest (oldMachine t) (newMachine t) z (run (stepIn t) p (x .0)) (x .1 .has .ends) in
             short (apart s) (x .0 ++ (v .0 ∷ [])) (trace-of-first (oldMachine t) (newMachine t) (Ok z) p (x .0) (v .0) (x .1) (v .1)) (omega (arith, long-snoc (x .0) (v .0), x .2)) refl
 
     module _ (list′ : List ℕ) (end : Pair) (w : Descended z (t .old-next) (t .new-next) d p list list′ end) where

@@ -11,9 +11,10 @@ use Rattle.numbers.proofs.Order.{zero-or}
 use Rattle.machine.specs.Meaning.Tables.{Tables, pairs, number, at, In, Ok, Flag, holds, fails, oldMachine, newMachine, AlikeIn}
 use Rattle.machine.specs.Working.Pairs.{DiffersIn, stepIn}
 use Rattle.machine.proofs.Lists.{complete-there, still-first-there}
-use Rattle.machine.proofs.Pairs.{alike-no-list, alike-of-no-list}
+use Rattle.machine.proofs.Telling.{alike-at-zero, zero-at-alike}
 use Rattle.search.specs.Working.{Flagged, Ones, DiffersAt, Searched}
-use Rattle.search.proofs.Cells.{closed, number-in, pair-number}
+use Rattle.machine.proofs.Numbers.{number-in, pair-number}
+use Rattle.search.proofs.Cells.{closed}
 use Rattle.seek.specs.Working.Steps.{Good, MapFor, MapOf}
 
 pub flag-one : {P : Type 0} {x : ℕ} → Flag P x → x ≤ 1
@@ -54,10 +55,10 @@ module _ (t : Tables) (g : Good t) where
 
   module _ {d : List ℕ} (m : MapFor t (DiffersIn t) d) where
     pub alike-of-zero : (p : Pair) → In z p → at z d p ≡ 0 → AlikeIn t p
-    alike-of-zero p i e = alike-of-no-list (oldMachine t) (newMachine t) (Ok z) p (m .map .none p i e)
+    alike-of-zero = alike-at-zero (oldMachine t) (newMachine t) (Ok z) (In z) (at z d) (m .map)
 
     pub zero-of-alike : (p : Pair) → In z p → AlikeIn t p → at z d p ≡ 0
-    zero-of-alike p i a = ⊎-elim (λ e. e) (λ q. let y = m .map .dist p i (q .0) (q .1) in absurd (alike-no-list (oldMachine t) (newMachine t) (Ok z) p (y .list) a (y .leads))) (zero-or (at z d p))
+    zero-of-alike = zero-at-alike (oldMachine t) (newMachine t) (Ok z) (In z) (at z d) (m .map)
 
     pub map-alike : {e e₀ e′ : List ℕ} {n : ℕ} → Flagged (λ q. getD d q 0 ≡ 0) (pairs z) e e₀ → Searched z (t .old-next) (t .new-next) e₀ e′ n → MapOf t (AlikeIn t) e′ n
     map-alike f s = map-of f (λ p i o. alike-of-zero p i o) (λ p i o. zero-of-alike p i o) s

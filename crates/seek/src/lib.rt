@@ -168,20 +168,20 @@ pub fn find_trace(
     requires { ⌜ In sizes p ⌝ }
     ensures { λ r. ⌜ Outcome (AlikeIn (tables sizes (now («old_next» .entry)) (now («old_out» .entry)) (now («new_next» .entry)) (now («new_out» .entry))) p) (TraceIn (tables sizes (now («old_next» .entry)) (now («old_out» .entry)) (now («new_next» .entry)) (now («new_out» .entry))) p) (now (list .entry)) (now (list .exit)) r ⌝ }
 {
-    let n = search::depth_of(sizes, depth, p);
-    if n == 0 {
+    let steps = search::depth_of(sizes, depth, p);
+    if steps == 0 {
         return Found::Refused(15);
     }
-    if list.len() < n {
+    if list.len() < steps {
         return Found::Refused(16);
     }
     let end = search::descend(old_next, new_next, sizes, depth, p, list);
     let v = search::different_vector(old_out, new_out, sizes, end);
-    list[n - 1] = search::narrow(v);
-    Found::Steps(n)
+    list[steps - 1] = search::narrow(v);
+    Found::Steps(steps)
 }
 
-// The list of the pair p, by the map in reach.
+// The list of the pair p, by the map in reach, which holds one more than its steps.
 pub fn find_list(
     old_next: &[u8],
     old_out: &[u8],
@@ -198,13 +198,13 @@ pub fn find_list(
     requires { ⌜ In sizes p ⌝ }
     ensures { λ r. ⌜ Outcome (AlignableIn (tables sizes (now («old_next» .entry)) (now («old_out» .entry)) (now («new_next» .entry)) (now («new_out» .entry))) p → ⊥) (ListIn (tables sizes (now («old_next» .entry)) (now («old_out» .entry)) (now («new_next» .entry)) (now («new_out» .entry))) p) (now (list .entry)) (now (list .exit)) r ⌝ }
 {
-    let n = search::depth_of(sizes, reach, p);
-    if n == 0 {
+    let above = search::depth_of(sizes, reach, p);
+    if above == 0 {
         return Found::Refused(15);
     }
-    if list.len() < n - 1 {
+    if list.len() < above - 1 {
         return Found::Refused(16);
     }
     search::descend(old_next, new_next, sizes, reach, p, list);
-    Found::Steps(n - 1)
+    Found::Steps(above - 1)
 }

@@ -6,5 +6,6 @@ pub mod Sources
 pub mod Filling
 pub mod Faults
 pub mod Room
+pub mod NotZero
 pub mod Determined
 pub mod Same

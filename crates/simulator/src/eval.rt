@@ -83,7 +83,8 @@ fn spread(vals: &mut [u8; Image::MOST_NETS], start: usize, width: usize, number:
 {
     let mut j = 0;
     while j < width {
-        vals[start + j] = ((number >> (width - (j + 1))) % 2) as u8;
+        let weight = width - (j + 1);
+        vals[start + j] = ((number >> weight) % 2) as u8;
         j += 1;
     }
 }

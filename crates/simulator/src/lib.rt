@@ -18,9 +18,8 @@ pub fn clock(d: Design, state: usize, vector: usize) -> Clocked
     ensures { λ r. ⌜ Clocks d state vector r ⌝ }
 {
     let plan = netlist::order::levelize(d);
-    let number = plan.number;
-    if number != 0 {
-        return Clocked::Refused(number);
+    if plan.number != 0 {
+        return Clocked::Refused(plan.number);
     }
     if eval::power(d.latches) <= state {
         return Clocked::Refused(14);
@@ -77,35 +76,42 @@ pub enum TabulatedBoth {
 pub fn tabulate_both(
     old: Design,
     new: Design,
-    next0: &mut [u8],
-    out0: &mut [u8],
-    next1: &mut [u8],
-    out1: &mut [u8],
+    old_next: &mut [u8],
+    old_out: &mut [u8],
+    new_next: &mut [u8],
+    new_out: &mut [u8],
 ) -> TabulatedBoth
-    ensures { λ r. ⌜ TabulatesBoth old new (length (now (next0 .entry))) (length (now (out0 .entry))) (length (now (next1 .entry))) (length (now (out1 .entry))) r (now (next0 .exit)) (now (out0 .exit)) (now (next1 .exit)) (now (out1 .exit)) ⌝ }
+    ensures { λ r. ⌜ TabulatesBoth old new (length (now («old_next» .entry))) (length (now («old_out» .entry))) (length (now («new_next» .entry))) (length (now («new_out» .entry))) r (now («old_next» .exit)) (now («old_out» .exit)) (now («new_next» .exit)) (now («new_out» .exit)) ⌝ }
 {
-    let plan0 = netlist::order::levelize(old);
-    let plan1 = netlist::order::levelize(new);
-    let room0 = Room {
-        next: next0.len(),
-        out: out0.len(),
+    let old_plan = netlist::order::levelize(old);
+    let new_plan = netlist::order::levelize(new);
+    let old_room = Room {
+        next: old_next.len(),
+        out: old_out.len(),
     };
-    let room1 = Room {
-        next: next1.len(),
-        out: out1.len(),
+    let new_room = Room {
+        next: new_next.len(),
+        out: new_out.len(),
     };
-    let number = tables::both_number(old, new, plan0.number, plan1.number, room0, room1);
-    memory::clear_bytes(next0);
-    memory::clear_bytes(out0);
-    memory::clear_bytes(next1);
-    memory::clear_bytes(out1);
+    let number = tables::both_number(
+        old,
+        new,
+        old_plan.number,
+        new_plan.number,
+        old_room,
+        new_room,
+    );
+    memory::clear_bytes(old_next);
+    memory::clear_bytes(old_out);
+    memory::clear_bytes(new_next);
+    memory::clear_bytes(new_out);
     if number != 0 {
         return TabulatedBoth::Refused(number);
     }
-    let cells0 = plan0.cells;
-    tables::fill(old, cells0, next0, out0);
-    let cells1 = plan1.cells;
-    tables::fill(new, cells1, next1, out1);
+    let old_cells = old_plan.cells;
+    tables::fill(old, old_cells, old_next, old_out);
+    let new_cells = new_plan.cells;
+    tables::fill(new, new_cells, new_next, new_out);
     TabulatedBoth::Both {
         old: eval::power(old.latches),
         new: eval::power(new.latches),

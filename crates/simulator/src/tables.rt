@@ -38,17 +38,17 @@ pub fn table_number(d: Design, number: u8, room: Room) -> u8
 pub fn both_number(
     old: Design,
     new: Design,
-    number0: u8,
-    number1: u8,
-    room0: Room,
-    room1: Room,
+    old_number: u8,
+    new_number: u8,
+    old_room: Room,
+    new_room: Room,
 ) -> u8
-    requires { ⌜ (LowestOrNone (DesignFault old) number0) × (LowestOrNone (DesignFault new) number1) ⌝ }
-    ensures { λ r. ⌜ LowestOrNone (BothFault old new (room0 .next) (room0 .out) (room1 .next) (room1 .out)) r ⌝ }
+    requires { ⌜ (LowestOrNone (DesignFault old) «old_number») × (LowestOrNone (DesignFault new) «new_number») ⌝ }
+    ensures { λ r. ⌜ LowestOrNone (BothFault old new («old_room» .next) («old_room» .out) («new_room» .next) («new_room» .out)) r ⌝ }
 {
-    let table0 = table_number(old, number0, room0);
-    let table1 = table_number(new, number1, room1);
-    let table = memory::lower_number(table0, table1);
+    let old_table = table_number(old, old_number, old_room);
+    let new_table = table_number(new, new_number, new_room);
+    let table = memory::lower_number(old_table, new_table);
     memory::lower_number(table, interface_number(old, new))
 }
 

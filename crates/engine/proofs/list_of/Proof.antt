@@ -2,20 +2,14 @@
 use native.Mathlib.Omega.{arith}
 use Rattle.machine.proofs.Order.{first-unique}
 use Rattle.seek.proofs.Refusals.{good, room-enough}
+use Rattle.engine.proofs.Clearing.{tidy-of}
 use Rattle.engine.proofs.Finds.{lowest-state, free-call, free-in, keeps-outcome}
 use borrow.Author.Needs.{needs}
-use Rattle.engine.proofs.Clearing.{tidy-of}
 use Rattle.engine.proofs.list_of.Statement.{statement}
 use Rattle.engine.proofs.list_of.Tie as tie
 
-shorter-requires : tie.Need-shorter-requires
-shorter-requires c κs = search needs
-
-pair-fault-requires : tie.Need-pair-fault-requires
-pair-fault-requires c κs = search needs
-
-clear-lent-requires : tie.Need-clear-lent-requires
-clear-lent-requires c κs = search needs
+open-pair-requires : tie.Need-open-pair-requires
+open-pair-requires c κs = search needs
 
 same-length : tie.Need-same-length
 same-length c = search needs
@@ -28,16 +22,15 @@ same-length-3 c = search needs
 
 returns : tie.Need-returns
 returns c = record {
-  keeps = (lowest-state _ _ _ _ _ ((rw (c .before .before .before .before .before .before .before .before .before .before .before .before .shorter .ensures) at (c .before .before .before .before .before .before .before .before .before .before .before .pair-fault .ensures)) .some (c .if1 .taken)), c .before .before .before .before .before .before .before .clear-lent .ensures .written .zero);
-  tidy = tidy-of (c .before .before .before .before .before .before .before .clear-lent .ensures);
+  keeps = (lowest-state _ _ _ _ _ (c .before .before .before .before .before .before .before .open-pair .ensures .0 .some (c .if1 .taken)), c .before .before .before .before .before .before .before .open-pair .ensures .1 .written .zero);
+  tidy = tidy-of (c .before .before .before .before .before .before .before .open-pair .ensures .1);
 }
 
 write-list-requires : tie.Need-write-list-requires
 write-list-requires c κs =
-    let e = c .before .before .before .before .before .before .before .before .before .before .clear-lent .ensures in
-    let f = (rw (c .before .before .before .before .before .before .before .before .before .before .before .before .before .before .before .shorter .ensures) at (c .before .before .before .before .before .before .before .before .before .before .before .before .before .before .pair-fault .ensures)) .none (c .before .before .before .if1 .left) in
+    let f = c .before .before .before .before .before .before .before .before .before .before .open-pair .ensures .0 .none (c .before .before .before .if1 .left) in
     let h = room-enough (free-call f) in
-    (good (free-call f), ((omega (arith, h, e .depth .size), omega (arith, h, e .reach .size)), free-in f))
+    (good (free-call f), ((omega (arith, h, c .before .before .before .before .before .before .before .before .before .before .open-pair .ensures .1 .depth .size), omega (arith, h, c .before .before .before .before .before .before .before .before .before .before .open-pair .ensures .1 .reach .size)), free-in f))
 
 same-length-4 : tie.Need-same-length-4
 same-length-4 c = search needs
@@ -50,10 +43,9 @@ same-length-6 c = search needs
 
 returns-2 : tie.Need-returns-2
 returns-2 c =
-    let e = c .before .before .before .before .before .before .before .before .before .before .before .before .before .before .before .before .before .clear-lent .ensures in
-    let f = (rw (c .before .before .before .before .before .before .before .before .before .before .before .before .before .before .before .before .before .before .before .before .before .before .shorter .ensures) at (c .before .before .before .before .before .before .before .before .before .before .before .before .before .before .before .before .before .before .before .before .before .pair-fault .ensures)) .none (c .before .before .before .before .before .before .before .before .before .before .if1 .left) in
+    let e = c .before .before .before .before .before .before .before .before .before .before .before .before .before .before .before .before .before .open-pair .ensures .1 in
     record {
-      keeps = keeps-outcome _ _ _ _ _ f (λ a b x y. first-unique x y) (c .before .before .before .before .before .before .write-list .ensures .0) (e .written .size) (search needs) (e .written .zero);
+      keeps = keeps-outcome _ _ _ _ _ (c .before .before .before .before .before .before .before .before .before .before .before .before .before .before .before .before .before .open-pair .ensures .0 .none (c .before .before .before .before .before .before .before .before .before .before .if1 .left)) (λ a b x y. first-unique x y) (c .before .before .before .before .before .before .write-list .ensures .0) (e .written .size) (search needs) (e .written .zero);
       tidy = record { depth = rw (e .depth .size) at (c .before .before .before .before .before .before .write-list .ensures .1 .0); reach = rw (e .reach .size) at (c .before .before .before .before .before .before .write-list .ensures .1 .1); written = search needs };
     }
 
@@ -61,9 +53,7 @@ pub list-of-spec : {M : Type 1} → statement M
 list-of-spec =
     tie.close
     (tie.spec
-    shorter-requires
-    pair-fault-requires
-    clear-lent-requires
+    open-pair-requires
     same-length
     same-length-2
     same-length-3

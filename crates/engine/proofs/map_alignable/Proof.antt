@@ -1,20 +1,11 @@
 -- `map_alignable`: turned away with cleared slices, or what `mark_alignable` leaves.
-use borrow.Author.Needs.{needs}
 use Rattle.engine.proofs.Clearing.{tidy-of}
+use borrow.Author.Needs.{needs}
 use Rattle.engine.proofs.map_alignable.Statement.{statement}
 use Rattle.engine.proofs.map_alignable.Tie as tie
 
-shorter-requires : tie.Need-shorter-requires
-shorter-requires c κs = search needs
-
-shorter-requires-2 : tie.Need-shorter-requires-2
-shorter-requires-2 c κs = search needs
-
-call-fault-requires : tie.Need-call-fault-requires
-call-fault-requires c κs = search needs
-
-clear-lent-requires : tie.Need-clear-lent-requires
-clear-lent-requires c κs = search needs
+open-map-requires : tie.Need-open-map-requires
+open-map-requires c κs = search needs
 
 same-length : tie.Need-same-length
 same-length c = search needs
@@ -27,14 +18,14 @@ same-length-3 c = search needs
 
 returns : tie.Need-returns
 returns c = record {
-  keeps = ((rw (c .before .before .before .before .before .before .before .before .before .before .before .before .shorter2 .ensures, c .before .before .before .before .before .before .before .before .before .before .before .before .before .shorter .ensures) at (c .before .before .before .before .before .before .before .before .before .before .before .call-fault .ensures)) .some (c .if1 .taken), c .before .before .before .before .before .before .before .clear-lent .ensures .written .zero);
-  tidy = tidy-of (c .before .before .before .before .before .before .before .clear-lent .ensures);
+  keeps = (c .before .before .before .before .before .before .before .open-map .ensures .0 .some (c .if1 .taken), c .before .before .before .before .before .before .before .open-map .ensures .1 .written .zero);
+  tidy = tidy-of (c .before .before .before .before .before .before .before .open-map .ensures .1);
 }
 
 mark-alignable-requires : tie.Need-mark-alignable-requires
 mark-alignable-requires c κs =
-    let e = c .before .before .before .before .before .before .before .before .before .before .clear-lent .ensures in
-    (rw (e .depth .size, e .reach .size, e .written .size) ((rw (c .before .before .before .before .before .before .before .before .before .before .before .before .before .before .before .shorter2 .ensures, c .before .before .before .before .before .before .before .before .before .before .before .before .before .before .before .before .shorter .ensures) at (c .before .before .before .before .before .before .before .before .before .before .before .before .before .before .call-fault .ensures)) .none (c .before .before .before .if1 .left)), e .written .zero)
+    let e = c .before .before .before .before .before .before .before .before .before .before .open-map .ensures .1 in
+    (rw (e .depth .size, e .reach .size, e .written .size) (c .before .before .before .before .before .before .before .before .before .before .open-map .ensures .0 .none (c .before .before .before .if1 .left)), e .written .zero)
 
 same-length-4 : tie.Need-same-length-4
 same-length-4 c = search needs
@@ -46,16 +37,13 @@ same-length-6 : tie.Need-same-length-6
 same-length-6 c = search needs
 
 returns-2 : tie.Need-returns-2
-returns-2 c = let e = c .before .before .before .before .before .before .before .before .before .before .before .before .before .before .before .before .before .clear-lent .ensures in rw (e .depth .size, e .reach .size, e .written .size) at (c .before .before .before .before .before .before .mark-alignable .ensures)
+returns-2 c = let e = c .before .before .before .before .before .before .before .before .before .before .before .before .before .before .before .before .before .open-map .ensures .1 in rw (e .depth .size, e .reach .size, e .written .size) at (c .before .before .before .before .before .before .mark-alignable .ensures)
 
 pub map-alignable-spec : {M : Type 1} → statement M
 map-alignable-spec =
     tie.close
     (tie.spec
-    shorter-requires
-    shorter-requires-2
-    call-fault-requires
-    clear-lent-requires
+    open-map-requires
     same-length
     same-length-2
     same-length-3

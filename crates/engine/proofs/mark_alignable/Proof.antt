@@ -14,11 +14,8 @@ total-requires c κs = good (c .before .before .before .before .before .before .
 mark-positive-requires : tie.Need-mark-positive-requires
 mark-positive-requires c κs = let h = fits-each (room-enough (c .before .before .before .before .before .before .before .before .before .before .before .before .before .before .before .before .before .pre .0)) in search needs
 
-clear-numbers-requires : tie.Need-clear-numbers-requires
-clear-numbers-requires c κs = search needs
-
-clear-numbers-requires-2 : tie.Need-clear-numbers-requires-2
-clear-numbers-requires-2 c κs = search needs
+clear-scratch-requires : tie.Need-clear-scratch-requires
+clear-scratch-requires c κs = search needs
 
 same-length : tie.Need-same-length
 same-length c = search needs
@@ -31,9 +28,9 @@ same-length-3 c = search needs
 
 returns : tie.Need-returns
 returns c =
-    let n = c .before .before .before .before .before .before .before .before .before .before .before .before .before .total .ensures .0 in
+    let n = c .before .before .before .before .before .before .before .before .before .before .before .before .total .ensures .0 in
     record {
-      keeps = (c .before .before .before .before .before .before .before .before .before .before .before .before .before .before .before .before .before .before .before .before .before .before .before .before .before .before .before .before .pre .0, marks-alignable _ (good (c .before .before .before .before .before .before .before .before .before .before .before .before .before .before .before .before .before .before .before .before .before .before .before .before .before .before .before .before .pre .0)) (c .before .before .before .before .before .before .before .before .before .before .before .before .before .before .before .before .before .before .map-both .ensures .alike) (rw n at (c .before .before .before .before .before .before .before .before .before .before .mark-positive .ensures .0)) (c .before .before .before .before .before .before .before .before .before .before .before .before .before .before .before .before .before .before .before .before .before .before .before .before .before .before .before .before .pre .1) (rw n at (c .before .before .before .before .before .before .before .before .before .before .mark-positive .ensures .1)));
+      keeps = (c .before .before .before .before .before .before .before .before .before .before .before .before .before .before .before .before .before .before .before .before .before .before .before .before .before .before .before .pre .0, marks-alignable _ (good (c .before .before .before .before .before .before .before .before .before .before .before .before .before .before .before .before .before .before .before .before .before .before .before .before .before .before .before .pre .0)) (c .before .before .before .before .before .before .before .before .before .before .before .before .before .before .before .before .before .map-both .ensures .alike) (rw n at (c .before .before .before .before .before .before .before .before .before .mark-positive .ensures .0)) (c .before .before .before .before .before .before .before .before .before .before .before .before .before .before .before .before .before .before .before .before .before .before .before .before .before .before .before .pre .1) (rw n at (c .before .before .before .before .before .before .before .before .before .mark-positive .ensures .1)));
       tidy = record { depth = search needs; reach = search needs; written = search needs };
     }
 
@@ -44,8 +41,7 @@ mark-alignable-spec =
     map-both-requires
     total-requires
     mark-positive-requires
-    clear-numbers-requires
-    clear-numbers-requires-2
+    clear-scratch-requires
     same-length
     same-length-2
     same-length-3

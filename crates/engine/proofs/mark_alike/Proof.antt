@@ -17,11 +17,8 @@ aligned-start-requires c κs = let h = fits-each (room-enough (c .before .before
 mark-positive-requires : tie.Need-mark-positive-requires
 mark-positive-requires c κs = let h = fits-each (room-enough (c .before .before .before .before .before .before .before .before .before .before .before .before .before .before .before .before .before .before .before .pre .0)) in search needs
 
-clear-numbers-requires : tie.Need-clear-numbers-requires
-clear-numbers-requires c κs = search needs
-
-clear-numbers-requires-2 : tie.Need-clear-numbers-requires-2
-clear-numbers-requires-2 c κs = search needs
+clear-scratch-requires : tie.Need-clear-scratch-requires
+clear-scratch-requires c κs = search needs
 
 same-length : tie.Need-same-length
 same-length c = search needs
@@ -34,13 +31,13 @@ same-length-3 c = search needs
 
 returns : tie.Need-returns
 returns c =
-    let n = c .before .before .before .before .before .before .before .before .before .before .before .before .before .before .before .before .before .before .total .ensures .0 in
+    let n = c .before .before .before .before .before .before .before .before .before .before .before .before .before .before .before .before .before .total .ensures .0 in
     record {
       keeps = (
-        c .before .before .before .before .before .before .before .before .before .before .before .before .before .before .before .before .before .before .before .before .before .before .before .before .before .before .before .before .before .before .pre .0,
+        c .before .before .before .before .before .before .before .before .before .before .before .before .before .before .before .before .before .before .before .before .before .before .before .before .before .before .before .before .before .pre .0,
         record {
-          marks = marks-alike _ (good (c .before .before .before .before .before .before .before .before .before .before .before .before .before .before .before .before .before .before .before .before .before .before .before .before .before .before .before .before .before .before .pre .0)) (c .before .before .before .before .before .before .before .before .before .before .before .before .before .before .before .before .before .before .before .before .before .map-apart .ensures .complete) (rw n at (c .before .before .before .before .before .before .before .before .before .before .before .before .before .before .before .aligned-start .ensures)) (rw n at (c .before .before .before .before .before .before .before .before .before .before .mark-positive .ensures .0)) (c .before .before .before .before .before .before .before .before .before .before .before .before .before .before .before .before .before .before .before .before .before .before .before .before .before .before .before .before .before .before .pre .1) (rw n at (c .before .before .before .before .before .before .before .before .before .before .mark-positive .ensures .1));
-          round = alike-round (c .before .before .before .before .before .before .before .before .before .before .before .before .before .before .before .before .before .before .before .before .before .map-apart .ensures);
+          marks = marks-alike _ (good (c .before .before .before .before .before .before .before .before .before .before .before .before .before .before .before .before .before .before .before .before .before .before .before .before .before .before .before .before .before .pre .0)) (c .before .before .before .before .before .before .before .before .before .before .before .before .before .before .before .before .before .before .before .before .map-apart .ensures .complete) (rw n at (c .before .before .before .before .before .before .before .before .before .before .before .before .before .before .aligned-start .ensures)) (rw n at (c .before .before .before .before .before .before .before .before .before .mark-positive .ensures .0)) (c .before .before .before .before .before .before .before .before .before .before .before .before .before .before .before .before .before .before .before .before .before .before .before .before .before .before .before .before .before .pre .1) (rw n at (c .before .before .before .before .before .before .before .before .before .mark-positive .ensures .1));
+          round = alike-round (c .before .before .before .before .before .before .before .before .before .before .before .before .before .before .before .before .before .before .before .before .map-apart .ensures);
         },
       );
       tidy = record { depth = search needs; reach = search needs; written = search needs };
@@ -54,8 +51,7 @@ mark-alike-spec =
     total-requires
     aligned-start-requires
     mark-positive-requires
-    clear-numbers-requires
-    clear-numbers-requires-2
+    clear-scratch-requires
     same-length
     same-length-2
     same-length-3

@@ -2,20 +2,14 @@
 use native.Mathlib.Omega.{arith}
 use Rattle.machine.proofs.Order.{first-unique}
 use Rattle.seek.proofs.Refusals.{good, room-enough}
+use Rattle.engine.proofs.Clearing.{tidy-of}
 use Rattle.engine.proofs.Finds.{lowest-state, free-call, free-in, keeps-outcome}
 use borrow.Author.Needs.{needs}
-use Rattle.engine.proofs.Clearing.{tidy-of}
 use Rattle.engine.proofs.trace_of.Statement.{statement}
 use Rattle.engine.proofs.trace_of.Tie as tie
 
-shorter-requires : tie.Need-shorter-requires
-shorter-requires c κs = search needs
-
-pair-fault-requires : tie.Need-pair-fault-requires
-pair-fault-requires c κs = search needs
-
-clear-lent-requires : tie.Need-clear-lent-requires
-clear-lent-requires c κs = search needs
+open-pair-requires : tie.Need-open-pair-requires
+open-pair-requires c κs = search needs
 
 same-length : tie.Need-same-length
 same-length c = search needs
@@ -28,14 +22,14 @@ same-length-3 c = search needs
 
 returns : tie.Need-returns
 returns c = record {
-  keeps = (lowest-state _ _ _ _ _ ((rw (c .before .before .before .before .before .before .before .before .before .before .before .before .shorter .ensures) at (c .before .before .before .before .before .before .before .before .before .before .before .pair-fault .ensures)) .some (c .if1 .taken)), c .before .before .before .before .before .before .before .clear-lent .ensures .written .zero);
-  tidy = tidy-of (c .before .before .before .before .before .before .before .clear-lent .ensures);
+  keeps = (lowest-state _ _ _ _ _ (c .before .before .before .before .before .before .before .open-pair .ensures .0 .some (c .if1 .taken)), c .before .before .before .before .before .before .before .open-pair .ensures .1 .written .zero);
+  tidy = tidy-of (c .before .before .before .before .before .before .before .open-pair .ensures .1);
 }
 
 write-trace-requires : tie.Need-write-trace-requires
 write-trace-requires c κs =
-    let f = (rw (c .before .before .before .before .before .before .before .before .before .before .before .before .before .before .shorter .ensures) at (c .before .before .before .before .before .before .before .before .before .before .before .before .before .pair-fault .ensures)) .none (c .before .before .if1 .left) in
-    (good (free-call f), (omega (arith, room-enough (free-call f), c .before .before .before .before .before .before .before .before .before .clear-lent .ensures .depth .size), free-in f))
+    let f = c .before .before .before .before .before .before .before .before .before .open-pair .ensures .0 .none (c .before .before .if1 .left) in
+    (good (free-call f), (omega (arith, room-enough (free-call f), c .before .before .before .before .before .before .before .before .before .open-pair .ensures .1 .depth .size), free-in f))
 
 same-length-4 : tie.Need-same-length-4
 same-length-4 c = search needs
@@ -48,10 +42,9 @@ same-length-6 c = search needs
 
 returns-2 : tie.Need-returns-2
 returns-2 c =
-    let e = c .before .before .before .before .before .before .before .before .before .before .before .before .before .before .clear-lent .ensures in
-    let f = (rw (c .before .before .before .before .before .before .before .before .before .before .before .before .before .before .before .before .before .before .before .shorter .ensures) at (c .before .before .before .before .before .before .before .before .before .before .before .before .before .before .before .before .before .before .pair-fault .ensures)) .none (c .before .before .before .before .before .before .before .if1 .left) in
+    let e = c .before .before .before .before .before .before .before .before .before .before .before .before .before .before .open-pair .ensures .1 in
     record {
-      keeps = keeps-outcome _ _ _ _ _ f (λ a b x y. first-unique x y) (c .before .before .before .before .write-trace .ensures .0) (e .written .size) (search needs) (e .written .zero);
+      keeps = keeps-outcome _ _ _ _ _ (c .before .before .before .before .before .before .before .before .before .before .before .before .before .before .open-pair .ensures .0 .none (c .before .before .before .before .before .before .before .if1 .left)) (λ a b x y. first-unique x y) (c .before .before .before .before .write-trace .ensures .0) (e .written .size) (search needs) (e .written .zero);
       tidy = record { depth = rw (e .depth .size) at (c .before .before .before .before .write-trace .ensures .1); reach = e .reach; written = search needs };
     }
 
@@ -59,9 +52,7 @@ pub trace-of-spec : {M : Type 1} → statement M
 trace-of-spec =
     tie.close
     (tie.spec
-    shorter-requires
-    pair-fault-requires
-    clear-lent-requires
+    open-pair-requires
     same-length
     same-length-2
     same-length-3

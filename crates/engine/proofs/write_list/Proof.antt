@@ -9,11 +9,8 @@ map-both-requires c κs = search needs
 find-list-requires : tie.Need-find-list-requires
 find-list-requires c κs = (c .before .before .before .before .before .before .before .before .before .before .before .before .before .before .before .before .pre .0, (search needs, (c .before .before .before .before .before .before .map-both .ensures .alike, c .before .before .before .before .before .before .before .before .before .before .before .before .before .before .before .before .pre .1 .1)))
 
-clear-numbers-requires : tie.Need-clear-numbers-requires
-clear-numbers-requires c κs = search needs
-
-clear-numbers-requires-2 : tie.Need-clear-numbers-requires-2
-clear-numbers-requires-2 c κs = search needs
+clear-scratch-requires : tie.Need-clear-scratch-requires
+clear-scratch-requires c κs = search needs
 
 same-length : tie.Need-same-length
 same-length c = search needs
@@ -25,7 +22,7 @@ same-length-3 : tie.Need-same-length-3
 same-length-3 c = search needs
 
 returns : tie.Need-returns
-returns c = (c .before .before .before .before .before .before .before .before .before .before .find-list .ensures, (search needs, search needs))
+returns c = (c .before .before .before .before .before .before .before .before .before .find-list .ensures, (search needs, search needs))
 
 pub write-list-spec : {M : Type 1} → statement M
 write-list-spec =
@@ -33,8 +30,7 @@ write-list-spec =
     (tie.spec
     map-both-requires
     find-list-requires
-    clear-numbers-requires
-    clear-numbers-requires-2
+    clear-scratch-requires
     same-length
     same-length-2
     same-length-3

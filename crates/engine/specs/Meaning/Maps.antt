@@ -16,7 +16,7 @@ use Rattle.machine.specs.declared.Pair.{Pair}
 use Rattle.machine.specs.declared.Sizes.{Sizes}
 use Rattle.machine.specs.Meaning.Tables.{Tables, pairs, at, In, Flag, AlikeIn, AlignableIn, RoundIn}
 use Rattle.seek.specs.Meaning.Faults.{Fault}
-use Rattle.engine.specs.Meaning.Lent.{Lent, Left, Tidy}
+use Rattle.seek.specs.Meaning.Lent.{Lent, Left, Tidy}
 use Rattle.engine.specs.declared.MappedAlike.{MappedAlike}
 use Rattle.engine.specs.declared.MappedAlignable.{MappedAlignable}
 

@@ -2,19 +2,18 @@
 --   foundReply                 the number and the value of each case of the answer: how many steps there are
 --   StateFault t room p n     number n applies to a call for the pair p, whatever it seeks
 --   PairFault t s p N S n      number n applies to a call for the pair p that seeks the list with S, of which there is none where N
---   Listed S list n            the first n bytes of the list slice have S, and all beyond them is 0
 --   Finds t s p N S e r        such a call of the tables t: slices of lengths s are left as e, and r is the answer
 --   FindsTrace, FindsList      `trace_of` and `list_of`
 use mathlib.Core.List.{List}
 use Prim.Native.Nat.{ℕ, _<_, _≤_, min}
 use lib.ListN.{length, take}
 use Rattle.memory.specs.Meaning.Refusals.{Reply, answer, refusal, Keeps}
-use Rattle.memory.specs.Meaning.Slices.{ZeroFrom, Zero}
+use Rattle.memory.specs.Meaning.Slices.{Zero}
 use Rattle.machine.specs.declared.Found.{Found}
 use Rattle.machine.specs.declared.Pair.{Pair}
 use Rattle.machine.specs.Meaning.Tables.{Tables, AlikeIn, AlignableIn, TraceIn, ListIn}
 use Rattle.seek.specs.Meaning.Faults.{Fault}
-use Rattle.engine.specs.Meaning.Lent.{Lent, Left, Tidy}
+use Rattle.seek.specs.Meaning.Lent.{Lent, Left, Tidy, Listed}
 
 abbrev pub foundReply : Found → Reply ℕ
 foundReply (Found.Steps n) = answer n
@@ -31,12 +30,6 @@ pub data PairFault (t : Tables) (s : Lent) (p : Pair) (None : Type 0) (Sought : 
   state : {n : ℕ} → StateFault t (min (s .depth) (s .reach)) p n → PairFault t s p None Sought n
   none : None → PairFault t s p None Sought 15
   short-list : (l : List ℕ) → Sought l → s .written < length l → PairFault t s p None Sought 16
-
--- "After an answer the part beyond it is zero"
-pub record Listed (Sought : List ℕ → Type 0) (list : List ℕ) (n : ℕ) : Type 0 where
-  pub sought : Sought (take n list)
-  pub fits : n ≤ length list
-  pub beyond : ZeroFrom n list
 
 -- "After a refusal every written slice is zero throughout"
 pub record Finds (t : Tables) (s : Lent) (p : Pair) (None : Type 0) (Sought : List ℕ → Type 0) (e : Left) (r : Found) : Type 0 where

@@ -1,5 +1,6 @@
 -- `different_vector`: a scan over the vectors.
 use Prim.Native.Nat.{_-_}
+use native.Mathlib.Omega.{arith}
 use borrow.Author.Needs.{needs}
 use Rattle.search.specs.Working.{NoneBelow, Different}
 use Rattle.search.proofs.Cells.{scan-start, scan-more, scan-found, scan-none}
@@ -7,24 +8,24 @@ use Rattle.search.proofs.different_vector.Statement.{statement}
 use Rattle.search.proofs.different_vector.Tie as tie
 
 abbrev Inv-loop : tie.InvT-loop
-Inv-loop old-out new-out sizes p v₀ v = NoneBelow (Different sizes old-out new-out p) (sizes .vectors) v
+Inv-loop old-out new-out sizes p vector₀ vector = NoneBelow (Different sizes old-out new-out p) (sizes .vectors) vector
 
 abbrev μ-loop : tie.MeasureT-loop
-μ-loop old-out new-out sizes p v₀ v = sizes .vectors - v
+μ-loop old-out new-out sizes p vector₀ vector = sizes .vectors - vector
 
 loop-holds : tie.Need-loop-holds Inv-loop μ-loop
 loop-holds c = scan-start
 
 shows-requires : tie.Need-shows-requires Inv-loop μ-loop
 shows-requires c κs =
-    (c .before .before .before .before .before .pre .0, (c .before .before .before .before .before .pre .1, c .if1 .taken))
+    (c .before .before .before .before .before .pre .0, (c .before .before .before .before .before .pre .1, omega (arith, c .if1 .taken)))
 
 returns : tie.Need-returns Inv-loop μ-loop
 returns c =
     scan-found (c .before .before .before .before .loop .inv) (c .before .before .if1 .taken) (rw (c .if2 .taken) at (c .before .shows .ensures))
 
-add-v : tie.Need-add-v Inv-loop μ-loop
-add-v c = search needs
+add-vector : tie.Need-add-vector Inv-loop μ-loop
+add-vector c = search needs
 
 loop-less : tie.Need-loop-less Inv-loop μ-loop
 loop-less c = search needs
@@ -46,7 +47,7 @@ different-vector-spec =
     loop-holds
     shows-requires
     returns
-    add-v
+    add-vector
     loop-less
     loop-again
     returns-2)

@@ -1,5 +1,6 @@
 -- `lowest`: a scan over the vectors.
 use Prim.Native.Nat.{_-_}
+use native.Mathlib.Omega.{arith}
 use borrow.Author.Needs.{needs}
 use Rattle.search.specs.Working.{NoneBelow, To}
 use Rattle.search.proofs.Cells.{scan-start, scan-more, scan-found, scan-none}
@@ -17,7 +18,7 @@ loop-holds c = scan-start
 
 lands-requires : tie.Need-lands-requires Inv-loop μ-loop
 lands-requires c κs =
-    (c .before .before .before .before .before .before .pre .0, (c .before .before .before .before .before .before .pre .1, c .if1 .taken))
+    (c .before .before .before .before .before .before .pre .0, (c .before .before .before .before .before .before .pre .1, omega (arith, c .if1 .taken)))
 
 returns : tie.Need-returns Inv-loop μ-loop
 returns c =

@@ -3,7 +3,7 @@ use mathlib.Core.Path.{_∙_, ap}
 use Prim.Native.Nat.{ℕ}
 use lib.ListN.{getD}
 use native.Mathlib.Omega.{arith}
-use Rattle.search.proofs.Cells.{same-pair}
+use Rattle.machine.proofs.Numbers.{same-pair}
 use borrow.Author.Needs.{needs}
 use Rattle.search.proofs.next.Statement.{statement}
 use Rattle.search.proofs.next.Tie as tie

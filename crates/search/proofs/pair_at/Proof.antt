@@ -1,6 +1,6 @@
 -- `pair_at`: quotient and remainder are the two states.
 use mathlib.Core.Path.{refl}
-use Rattle.search.proofs.Cells.{second-pos, pairAt-in}
+use Rattle.machine.proofs.Numbers.{second-pos, pairAt-in}
 use Rattle.search.proofs.pair_at.Statement.{statement}
 use Rattle.search.proofs.pair_at.Tie as tie
 

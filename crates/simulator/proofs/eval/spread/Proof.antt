@@ -17,11 +17,11 @@ abbrev μ-loop : tie.MeasureT-loop
 loop-holds : tie.Need-loop-holds Inv-loop μ-loop
 loop-holds c = (search needs, spread-none _ _ _ _)
 
-add-vals : tie.Need-add-vals Inv-loop μ-loop
-add-vals c = search needs
+add-weight : tie.Need-add-weight Inv-loop μ-loop
+add-weight c = search needs
 
-sub-vals : tie.Need-sub-vals Inv-loop μ-loop
-sub-vals c = search needs
+sub-weight : tie.Need-sub-weight Inv-loop μ-loop
+sub-weight c = search needs
 
 shr-vals : tie.Need-shr-vals Inv-loop μ-loop
 shr-vals c = search needs
@@ -29,8 +29,8 @@ shr-vals c = search needs
 cast-vals : tie.Need-cast-vals Inv-loop μ-loop
 cast-vals c = search needs
 
-add-vals-2 : tie.Need-add-vals-2 Inv-loop μ-loop
-add-vals-2 c = search needs
+add-vals : tie.Need-add-vals Inv-loop μ-loop
+add-vals c = search needs
 
 element-write-vals : tie.Need-element-write-vals Inv-loop μ-loop
 element-write-vals c = search needs
@@ -61,11 +61,11 @@ spread-spec =
     Inv-loop
     μ-loop
     loop-holds
-    add-vals
-    sub-vals
+    add-weight
+    sub-weight
     shr-vals
     cast-vals
-    add-vals-2
+    add-vals
     element-write-vals
     add-j
     loop-less

@@ -1,0 +1,50 @@
+// The number of a refusal, and 0 of an answer.
+use crate::Counted;
+use engine::MappedAlignable;
+use engine::MappedAlike;
+use image::Answer;
+use image::Length;
+use verdict::Verdict;
+
+pub fn length(r: Length) -> u8 {
+    match r {
+        Length::Bytes(_) => 0,
+        Length::Refused(number) => number,
+    }
+}
+
+pub fn answer(r: Answer) -> u8 {
+    match r {
+        Answer::Accepted => 0,
+        Answer::Refused(number) => number,
+    }
+}
+
+pub fn verdict(r: Verdict) -> u8 {
+    match r {
+        Verdict::Same(_) => 0,
+        Verdict::Apart(_, _) => 0,
+        Verdict::Refused(number) => number,
+    }
+}
+
+pub fn alike(r: MappedAlike) -> u8 {
+    match r {
+        MappedAlike::Marked { count: _, round: _ } => 0,
+        MappedAlike::Refused(number) => number,
+    }
+}
+
+pub fn alignable(r: MappedAlignable) -> u8 {
+    match r {
+        MappedAlignable::Marked(_) => 0,
+        MappedAlignable::Refused(number) => number,
+    }
+}
+
+pub fn counted(r: Counted) -> u8 {
+    match r {
+        Counted::Facts(_) => 0,
+        Counted::Refused(number) => number,
+    }
+}

@@ -1,0 +1,127 @@
+-- The promise of `compare`, from those of the tabulating call and of the verdict on its tables.
+use Prim.Native.Nat.{ℕ, _<_, _≤_, min}
+use mathlib.Core.Path.{_≡_, refl, subst}
+use mathlib.Core.List.{List}
+use native.Mathlib.Omega.{arith}
+use lib.ListN.{length}
+use Rattle.numbers.proofs.Order.{stable, le-of-not-lt}
+use Rattle.memory.specs.Meaning.Refusals.{Free, refusal}
+use Rattle.memory.specs.Meaning.Slices.{Cleared}
+use Rattle.netlist.specs.declared.Design.{Design}
+use Rattle.netlist.specs.Meaning.Faults.{Accepted}
+use Rattle.netlist.proofs.Numbers.{fault-bounds}
+use Rattle.simulator.specs.declared.TabulatedBoth.{TabulatedBoth}
+use Rattle.simulator.specs.Meaning.Tables.{HoldsDesign, TableFault, InterfaceFault, BothFault, TabulatesBoth}
+use Rattle.machine.specs.declared.Sizes.{Sizes}
+use Rattle.machine.specs.Meaning.Machine.{Machine}
+use Rattle.machine.specs.Meaning.Tables.{Tables, tables, oldMachine, newMachine}
+use Rattle.machine.specs.Working.Pairs.{SameSteps}
+use Rattle.machine.proofs.Transfer.{same-back, same-there, is-apart-there, written-there}
+use Rattle.seek.specs.Meaning.Faults.{Fault, TooShort}
+use Rattle.seek.specs.Meaning.Lent.{Lent, Left, left}
+use Rattle.verdict.specs.declared.Verdict.{Verdict}
+use Rattle.verdict.specs.Meaning.Decision.{Decision, Decided, ShortList, short}
+use Rattle.verdict.specs.Meaning.Decision as D
+use Rattle.verdict.specs.Meaning.Promise.{JudgeFault}
+use Rattle.compare.specs.Meaning.Designs.{machineOf, sizesOf}
+use Rattle.compare.specs.Meaning.Comparing.{TablesLent, TablesLeft, tablesLeft, CompareFault, Compared, Compares}
+use Rattle.compare.specs.Working.Judging.{JudgedOrCleared}
+use Rattle.compare.proofs.Agreement.{tables-agree, tables-fault}
+
+-- what is decided of one description of two designs is decided of the other
+pub decided-there : {z : Sizes} {m0 m1 n0 n1 : Machine} → SameSteps z m0 m1 n0 n1 → (l : List ℕ) (x : Decision) → Decided m0 m1 z l x → Decided n0 n1 z l x
+decided-there e l (D.same n) w = record { sought = same-there e _ (w .sought); fits = w .fits; beyond = w .beyond }
+decided-there e l (D.apart p n) w = record { sought = is-apart-there e p _ (w .sought); fits = w .fits; beyond = w .beyond }
+
+short-there : {z : Sizes} {m0 m1 n0 n1 : Machine} → SameSteps z m0 m1 n0 n1 → (k n : ℕ) → ShortList m0 m1 z k n → ShortList n0 n1 z k n
+short-there e k _ (short l w h) = short l (written-there e l w) h
+
+short-16 : {z : Sizes} {m0 m1 : Machine} {k n : ℕ} → ShortList m0 m1 z k n → n ≡ 16
+short-16 (short l w h) = refl
+
+-- nothing but 12 of scratch and 16 of the list is left where tabulating was not refused
+module _ (a b : Design) (n : TablesLent) (s : Lent) (next0 out0 next1 out1 : List ℕ)
+    (free : Free (BothFault a b (n .old-next) (n .old-out) (n .new-next) (n .new-out)))
+    (size0 : length next0 ≡ n .old-next) (size1 : length out0 ≡ n .old-out) (size2 : length next1 ≡ n .new-next) (size3 : length out1 ≡ n .new-out)
+    (h0 : HoldsDesign a next0 out0) (h1 : HoldsDesign b next1 out1) where
+  abbrev Both : Tables
+  Both = tables (sizesOf a b) next0 out0 next1 out1
+
+  accepted-old : Accepted a
+  accepted-old k f = free k (BothFault.old (TableFault.design f))
+
+  accepted-new : Accepted b
+  accepted-new k f = free k (BothFault.new (TableFault.design f))
+
+  same-inputs : a .inputs ≡ b .inputs
+  same-inputs = stable (a .inputs) (b .inputs) (λ d. free 10 (BothFault.interface (InterfaceFault.other-inputs d)))
+
+  agree : SameSteps (sizesOf a b) (oldMachine Both) (newMachine Both) (machineOf a) (machineOf b)
+  agree = tables-agree a b next0 out0 next1 out1 same-inputs h0 h1
+
+  fault-there : (k : ℕ) → JudgeFault Both s k → CompareFault a b n s k
+  fault-there k (JudgeFault.call f) =
+      let w = tables-fault a b next0 out0 next1 out1 same-inputs h0 h1 (min (s .depth) (s .reach)) accepted-old accepted-new
+      (le-of-not-lt (λ l. free 12 (BothFault.old (TableFault.next (omega (arith, l, size0))))))
+      (le-of-not-lt (λ l. free 12 (BothFault.old (TableFault.out (omega (arith, l, size1))))))
+      (le-of-not-lt (λ l. free 12 (BothFault.new (TableFault.next (omega (arith, l, size2))))))
+      (le-of-not-lt (λ l. free 12 (BothFault.new (TableFault.out (omega (arith, l, size3)))))) k f in
+      rw (w .0) (CompareFault.scratch (w .1))
+  fault-there k (JudgeFault.list f) = CompareFault.list (short-there agree (s .written) k f)
+
+  fault-back : (k : ℕ) → CompareFault a b n s k → JudgeFault Both s k
+  fault-back k (CompareFault.tabulating f) = absurd (free k f)
+  fault-back k (CompareFault.scratch h) = JudgeFault.call (Fault.short (TooShort.lent h))
+  fault-back k (CompareFault.list f) = JudgeFault.list (short-there (same-back agree) (s .written) k f)
+
+  compared : (t : TablesLeft) (e : Left) (r : Verdict) → JudgedOrCleared Both s t e r → Compares a b n s t e r
+  compared t e (Verdict.Same m) j = record { keeps = (λ k f. j .judges .keeps .0 k (fault-back k f), answered t e (D.same m) (j .tables) (j .judges .keeps .1)); tidy = j .judges .tidy }
+    where
+      answered : (t : TablesLeft) (e : Left) (x : Decision) → t ≡ tablesLeft next0 out0 next1 out1 → Decided (oldMachine Both) (newMachine Both) (sizesOf a b) (e .written) x → Compared a b t e x
+      answered t e x q w = rw q (record { decided = decided-there agree (e .written) x w; old = h0; new = h1 })
+  compared t e (Verdict.Apart p m) j = record { keeps = (λ k f. j .judges .keeps .0 k (fault-back k f), answered t e (D.apart p m) (j .tables) (j .judges .keeps .1)); tidy = j .judges .tidy }
+    where
+      answered : (t : TablesLeft) (e : Left) (x : Decision) → t ≡ tablesLeft next0 out0 next1 out1 → Decided (oldMachine Both) (newMachine Both) (sizesOf a b) (e .written) x → Compared a b t e x
+      answered t e x q w = rw q (record { decided = decided-there agree (e .written) x w; old = h0; new = h1 })
+  compared t e (Verdict.Refused m) j = record {
+    keeps = (record { applies = fault-there m (j .judges .keeps .0 .applies); lower = λ k l f. j .judges .keeps .0 .lower k l (fault-back k f) }, record { old = j .tables .0; new = j .tables .1; list = j .judges .keeps .1 });
+    tidy = j .judges .tidy;
+  }
+
+-- the two calls one after the other
+pub compared-both : (a b : Design) (n : TablesLent) (s : Lent) (s0 s1 v : ℕ) (next0 out0 next1 out1 : List ℕ) (t : TablesLeft) (e : Left) (r : Verdict)
+    → TabulatesBoth a b (n .old-next) (n .old-out) (n .new-next) (n .new-out) (TabulatedBoth.Both s0 s1 v) next0 out0 next1 out1
+    → JudgedOrCleared (tables (record { old = s0; new = s1; vectors = v }) next0 out0 next1 out1) s t e r → Compares a b n s t e r
+compared-both a b n s s0 s1 v next0 out0 next1 out1 t e r w j =
+    let k = w .keeps .1 in
+    let p = k .old-states in
+    let q = k .new-states in
+    let u = k .vectors in
+    let z : _≡_ {A = Sizes} (record { old = s0; new = s1; vectors = v }) (sizesOf a b) = cc in
+    compared a b n s next0 out0 next1 out1 (w .keeps .0) (w .size-next0) (w .size-out0) (w .size-next1) (w .size-out1) (k .old) (k .new) t e r
+    (subst (λ (x : Sizes). JudgedOrCleared (tables x next0 out0 next1 out1) s t e r) z j)
+
+-- a refusal of the tabulating call: nothing above 12 is lower
+both-most : {a b : Design} {n0 m0 n1 m1 k : ℕ} → BothFault a b n0 m0 n1 m1 k → k ≤ 12
+both-most (BothFault.old (TableFault.design f)) = omega (arith, fault-bounds f .1)
+both-most (BothFault.old (TableFault.next h)) = omega arith
+both-most (BothFault.old (TableFault.out h)) = omega arith
+both-most (BothFault.new (TableFault.design f)) = omega (arith, fault-bounds f .1)
+both-most (BothFault.new (TableFault.next h)) = omega arith
+both-most (BothFault.new (TableFault.out h)) = omega arith
+both-most (BothFault.interface (InterfaceFault.other-inputs d)) = omega arith
+both-most (BothFault.interface (InterfaceFault.other-outputs d)) = omega arith
+
+pub refused-first : (a b : Design) (n : TablesLent) (s : Lent) (k : ℕ) (next0 out0 next1 out1 depth reach written : List ℕ)
+    → TabulatesBoth a b (n .old-next) (n .old-out) (n .new-next) (n .new-out) (TabulatedBoth.Refused k) next0 out0 next1 out1
+    → Cleared (s .depth) depth → Cleared (s .reach) reach → Cleared (s .written) written
+    → Compares a b n s (tablesLeft next0 out0 next1 out1) (left depth reach written) (Verdict.Refused k)
+refused-first a b n s k next0 out0 next1 out1 depth reach written w x y z = record {
+  keeps = (record { applies = CompareFault.tabulating (w .keeps .0 .applies); lower = lower }, record { old = w .keeps .1 .0; new = w .keeps .1 .1; list = z .zero });
+  tidy = record { depth = x; reach = y; written = z .size };
+}
+  where
+    lower : (m : ℕ) → m < k → CompareFault a b n s m → ⊥
+    lower m h (CompareFault.tabulating f) = w .keeps .0 .lower m h f
+    lower m h (CompareFault.scratch l) = omega (arith, both-most (w .keeps .0 .applies))
+    lower m h (CompareFault.list f) = omega (arith, both-most (w .keeps .0 .applies), short-16 f)

@@ -1,0 +1,94 @@
+-- Demand 3, from the promise of `compare`, and from the verdict's own promise over tables that tabulating calls wrote, one for both
+-- designs or one for each.
+use Prim.Native.Nat.{ℕ, _<_, min}
+use mathlib.Core.Path.{_≡_, refl}
+use mathlib.Core.List.{List}
+use native.Mathlib.Omega.{arith}
+use lib.ListN.{length}
+use Rattle.netlist.specs.declared.Design.{Design}
+use Rattle.netlist.specs.Meaning.Faults.{Accepted}
+use Rattle.netlist.proofs.Numbers.{fault-bounds}
+use Rattle.simulator.specs.Meaning.Tables.{HoldsDesign, TableFault, InterfaceFault, BothFault}
+use Rattle.machine.specs.declared.Pair.{Pair}
+use Rattle.machine.specs.Meaning.Tables.{tables, In}
+use Rattle.machine.proofs.Transfer.{written-there}
+use Rattle.machine.proofs.Verdict.{same-drives-all}
+use Rattle.seek.specs.Meaning.Lent.{Lent, Left}
+use Rattle.verdict.specs.declared.Verdict.{Verdict}
+use Rattle.verdict.specs.Meaning.Decision.{Decided, short}
+use Rattle.verdict.specs.Meaning.Decision as D
+use Rattle.verdict.specs.Meaning.Promise.{JudgeFault, Judges}
+use Rattle.compare.specs.Meaning.Designs.{machineOf, sizesOf, Compatible}
+use Rattle.compare.specs.Meaning.Comparing.{TablesLent, tablesLent, TablesLeft, CompareFault, Compares}
+use Rattle.compare.specs.Meaning.Demand.{Driven, Right, EnoughTables, Enough, Demand3}
+use Rattle.compare.specs.Meaning.Demand as R
+use Rattle.compare.proofs.Agreement.{tables-agree, tables-fault}
+use Rattle.compare.proofs.Comparison.{decided-there}
+
+-- what is decided over the designs' own steps is right
+same-right : (a b : Design) (l : List ℕ) (n : ℕ) → Decided (machineOf a) (machineOf b) (sizesOf a b) l (D.same n) → Right a b l (Verdict.Same n)
+same-right a b l n w = R.same n (w .fits) (λ p i. same-drives-all (machineOf a) (machineOf b) (sizesOf a b) _ (w .sought) p i)
+
+apart-right : (a b : Design) (l : List ℕ) (p : Pair) (n : ℕ) → Decided (machineOf a) (machineOf b) (sizesOf a b) l (D.apart p n) → Right a b l (Verdict.Apart p n)
+apart-right a b l p n w =
+    let g = w .sought .lowest in
+    R.apart p n (g .inside) (λ d. g .apart (record { list = d .list; leads = d .drives })) (λ q i h. let x = g .lower q i h in record { list = x .list; drives = x .leads })
+
+module _ (a b : Design) (n : TablesLent) (s : Lent) (x : Accepted a) (y : Accepted b) (c : Compatible a b) (t : EnoughTables a b n) (k : Enough a b s) where
+  no-fault : (m : ℕ) → CompareFault a b n s m → ⊥
+  no-fault m (CompareFault.tabulating (BothFault.old (TableFault.design f))) = x m f
+  no-fault m (CompareFault.tabulating (BothFault.old (TableFault.next h))) = omega (arith, h, t .old-next)
+  no-fault m (CompareFault.tabulating (BothFault.old (TableFault.out h))) = omega (arith, h, t .old-out)
+  no-fault m (CompareFault.tabulating (BothFault.new (TableFault.design f))) = y m f
+  no-fault m (CompareFault.tabulating (BothFault.new (TableFault.next h))) = omega (arith, h, t .new-next)
+  no-fault m (CompareFault.tabulating (BothFault.new (TableFault.out h))) = omega (arith, h, t .new-out)
+  no-fault m (CompareFault.tabulating (BothFault.interface (InterfaceFault.other-inputs d))) = d (c .inputs)
+  no-fault m (CompareFault.tabulating (BothFault.interface (InterfaceFault.other-outputs d))) = d (c .outputs)
+  no-fault m (CompareFault.scratch h) = omega (arith, h, k .scratch)
+  no-fault m (CompareFault.list (short l w h)) = omega (arith, h, k .list l w)
+
+-- demand 3 of `compare`
+pub demand-3 : (a b : Design) (n : TablesLent) (s : Lent) (t : TablesLeft) (e : Left) (r : Verdict) → Compares a b n s t e r → Demand3 a b n s e r
+demand-3 a b n s t e (Verdict.Same m) h x y c u k = same-right a b (e .written) m (h .keeps .1 .decided)
+demand-3 a b n s t e (Verdict.Apart p m) h x y c u k = apart-right a b (e .written) p m (h .keeps .1 .decided)
+demand-3 a b n s t e (Verdict.Refused m) h x y c u k = absurd (no-fault a b n s x y c u k m (h .keeps .0 .applies))
+
+-- demand 3 of `judge`, over tables of the two designs, however they were written
+pub demand-3-tables : (a b : Design) (next0 out0 next1 out1 : List ℕ) (s : Lent) (e : Left) (r : Verdict)
+    → HoldsDesign a next0 out0 → HoldsDesign b next1 out1 → Judges (tables (sizesOf a b) next0 out0 next1 out1) s e r
+    → Demand3 a b (tablesLent (length next0) (length out0) (length next1) (length out1)) s e r
+demand-3-tables a b next0 out0 next1 out1 s e (Verdict.Same m) h0 h1 j x y c u k =
+    same-right a b (e .written) m (decided-there (tables-agree a b next0 out0 next1 out1 (c .inputs) h0 h1) (e .written) (D.same m) (j .keeps .1))
+demand-3-tables a b next0 out0 next1 out1 s e (Verdict.Apart p m) h0 h1 j x y c u k =
+    apart-right a b (e .written) p m (decided-there (tables-agree a b next0 out0 next1 out1 (c .inputs) h0 h1) (e .written) (D.apart p m) (j .keeps .1))
+demand-3-tables a b next0 out0 next1 out1 s e (Verdict.Refused m) h0 h1 j x y c u k = absurd (none m (j .keeps .0 .applies))
+  where
+    none : (m : ℕ) → JudgeFault (tables (sizesOf a b) next0 out0 next1 out1) s m → ⊥
+    none m (JudgeFault.call f) =
+        let w = tables-fault a b next0 out0 next1 out1 (c .inputs) h0 h1 (min (s .depth) (s .reach)) x y (u .old-next) (u .old-out) (u .new-next) (u .new-out) m f in
+        omega (arith, w .1, k .scratch)
+    none m (JudgeFault.list (short l w h)) = omega (arith, h, k .list l (written-there (tables-agree a b next0 out0 next1 out1 (c .inputs) h0 h1) l w))
+
+-- "Apart exactly when some pair of power-up states .. is driven to an alike pair by no finite list"
+pub undriven-apart : (a b : Design) (l : List ℕ) (r : Verdict) → Right a b l r → (p : Pair) → In (sizesOf a b) p → (Driven a b p → ⊥) → (q : Pair) × (n : ℕ) × (r ≡ Verdict.Apart q n)
+undriven-apart a b l _ (R.same n h all) p i d = absurd (d (record { list = _; drives = all p i }))
+undriven-apart a b l _ (R.apart q n i g lower) p j d = (q, n, refl)
+
+pub apart-undriven : (a b : Design) (l : List ℕ) (p : Pair) (n : ℕ) → Right a b l (Verdict.Apart p n) → In (sizesOf a b) p × (Driven a b p → ⊥)
+apart-undriven a b l p n (R.apart _ _ i d lower) = (i, d)
+
+-- no condition has number 0, so a refusal by 0 keeps no promise
+fault-positive : {a b : Design} {n : TablesLent} {s : Lent} {m : ℕ} → CompareFault a b n s m → 0 < m
+fault-positive (CompareFault.tabulating (BothFault.old (TableFault.design f))) = omega (arith, fault-bounds f .0)
+fault-positive (CompareFault.tabulating (BothFault.old (TableFault.next h))) = omega arith
+fault-positive (CompareFault.tabulating (BothFault.old (TableFault.out h))) = omega arith
+fault-positive (CompareFault.tabulating (BothFault.new (TableFault.design f))) = omega (arith, fault-bounds f .0)
+fault-positive (CompareFault.tabulating (BothFault.new (TableFault.next h))) = omega arith
+fault-positive (CompareFault.tabulating (BothFault.new (TableFault.out h))) = omega arith
+fault-positive (CompareFault.tabulating (BothFault.interface (InterfaceFault.other-inputs d))) = omega arith
+fault-positive (CompareFault.tabulating (BothFault.interface (InterfaceFault.other-outputs d))) = omega arith
+fault-positive (CompareFault.scratch h) = omega arith
+fault-positive (CompareFault.list (short l w h)) = omega arith
+
+pub refused-0-shut : (a b : Design) (n : TablesLent) (s : Lent) (t : TablesLeft) (e : Left) → Compares a b n s t e (Verdict.Refused 0) → ⊥
+refused-0-shut a b n s t e h = omega (arith, fault-positive (h .keeps .0 .applies))

@@ -1,0 +1,20 @@
+-- Tables that are judged, and cleared where the verdict is a refusal.
+--   KeptOrCleared t l r         tables t are left as l: kept beside an answer, zero beside a refusal
+--   JudgedOrCleared t s l e r   the verdict r on the tables t is right, and the slices are left as l and e
+use mathlib.Core.Path.{_≡_}
+use Rattle.memory.specs.Meaning.Refusals.{Reply, answer, refusal}
+use Rattle.simulator.specs.Meaning.Tables.{ZeroTables}
+use Rattle.machine.specs.Meaning.Tables.{Tables}
+use Rattle.seek.specs.Meaning.Lent.{Lent, Left}
+use Rattle.verdict.specs.declared.Verdict.{Verdict}
+use Rattle.verdict.specs.Meaning.Decision.{Decision, reply}
+use Rattle.verdict.specs.Meaning.Promise.{Judges}
+use Rattle.compare.specs.Meaning.Comparing.{TablesLeft, tablesLeft}
+
+abbrev pub KeptOrCleared : Tables → TablesLeft → Reply Decision → Type 0
+KeptOrCleared t l (answer x) = l ≡ tablesLeft (t .old-next) (t .old-out) (t .new-next) (t .new-out)
+KeptOrCleared t l (refusal n) = ZeroTables (l .old-next) (l .old-out) × ZeroTables (l .new-next) (l .new-out)
+
+pub record JudgedOrCleared (t : Tables) (s : Lent) (l : TablesLeft) (e : Left) (r : Verdict) : Type 0 where
+  pub judges : Judges t s e r
+  pub tables : KeptOrCleared t l (reply r)

@@ -1,0 +1,92 @@
+// Two designs to a verdict: their tables are written, and judged. A refusal that comes only then clears the tables again.
+ghost use lib.ListN.{length};
+ghost use Rattle.machine.specs.Meaning.Tables.{tables};
+ghost use Rattle.seek.specs.Meaning.Lent.{lent, left};
+ghost use Rattle.compare.specs.Meaning.Comparing.{tablesLent, tablesLeft, Compares};
+ghost use Rattle.compare.specs.Working.Judging.{JudgedOrCleared};
+use machine::Sizes;
+use netlist::Design;
+use simulator::TabulatedBoth;
+use verdict::Verdict;
+
+// The verdict on two designs, with its list or trace, and the tables of both.
+pub fn compare(
+    old: Design,
+    new: Design,
+    old_next: &mut [u8],
+    old_out: &mut [u8],
+    new_next: &mut [u8],
+    new_out: &mut [u8],
+    depth: &mut [u16],
+    reach: &mut [u16],
+    list: &mut [u8],
+) -> Verdict
+    ensures { λ r. ⌜ Compares old new (tablesLent (length (now («old_next» .entry))) (length (now («old_out» .entry))) (length (now («new_next» .entry))) (length (now («new_out» .entry)))) (lent (length (now (depth .entry))) (length (now (reach .entry))) (length (now (list .entry)))) (tablesLeft (now («old_next» .exit)) (now («old_out» .exit)) (now («new_next» .exit)) (now («new_out» .exit))) (left (now (depth .exit)) (now (reach .exit)) (now (list .exit))) r ⌝ }
+{
+    let tabulated = simulator::tabulate_both(old, new, old_next, old_out, new_next, new_out);
+    match tabulated {
+        TabulatedBoth::Refused(number) => {
+            memory::clear_numbers(depth);
+            memory::clear_numbers(reach);
+            memory::clear_bytes(list);
+            Verdict::Refused(number)
+        }
+        TabulatedBoth::Both {
+            old: old_states,
+            new: new_states,
+            vectors,
+        } => {
+            let sizes = Sizes {
+                old: old_states,
+                new: new_states,
+                vectors,
+            };
+            judge_or_clear(
+                old_next,
+                old_out,
+                new_next,
+                new_out,
+                sizes,
+                depth,
+                reach,
+                list,
+            )
+        }
+    }
+}
+
+// The verdict on two tables, which are cleared beside a refusal.
+fn judge_or_clear(
+    old_next: &mut [u8],
+    old_out: &mut [u8],
+    new_next: &mut [u8],
+    new_out: &mut [u8],
+    sizes: Sizes,
+    depth: &mut [u16],
+    reach: &mut [u16],
+    list: &mut [u8],
+) -> Verdict
+    ensures { λ r. ⌜ JudgedOrCleared (tables sizes (now («old_next» .entry)) (now («old_out» .entry)) (now («new_next» .entry)) (now («new_out» .entry))) (lent (length (now (depth .entry))) (length (now (reach .entry))) (length (now (list .entry)))) (tablesLeft (now («old_next» .exit)) (now («old_out» .exit)) (now («new_next» .exit)) (now («new_out» .exit))) (left (now (depth .exit)) (now (reach .exit)) (now (list .exit))) r ⌝ }
+{
+    let answer = verdict::judge(
+        old_next,
+        old_out,
+        new_next,
+        new_out,
+        sizes,
+        depth,
+        reach,
+        list,
+    );
+    match answer {
+        Verdict::Same(steps) => Verdict::Same(steps),
+        Verdict::Apart(pair, steps) => Verdict::Apart(pair, steps),
+        Verdict::Refused(number) => {
+            memory::clear_bytes(old_next);
+            memory::clear_bytes(old_out);
+            memory::clear_bytes(new_next);
+            memory::clear_bytes(new_out);
+            Verdict::Refused(number)
+        }
+    }
+}

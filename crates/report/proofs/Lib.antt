@@ -1,0 +1,4 @@
+pub mod Spelling
+pub mod Putting
+pub mod Listing
+pub mod Examples

@@ -1,0 +1,58 @@
+-- `put_vectors`: the lines of the vectors passed stand in the text.
+use borrow.Author.Needs.{needs}
+use Prim.Native.Nat.{_-_, _≤_}
+use mathlib.Core.Path.{refl}
+use native.Mathlib.Omega.{arith}
+use Rattle.report.specs.Meaning.Text.{vectorLine}
+use Rattle.report.proofs.Listing.{Listed, listed-none, listed-more, listed-all}
+use Rattle.report.proofs.lines.put_vectors.Statement.{statement}
+use Rattle.report.proofs.lines.put_vectors.Tie as tie
+
+abbrev Inv-loop : tie.InvT-loop
+Inv-loop list n text₀ at end₀ i₀ text end i = (i ≤ n) × Listed (λ (x : Unit {0}) v. vectorLine v) (λ x v. x) 4 tt list at text₀ text i end tt
+
+abbrev μ-loop : tie.MeasureT-loop
+μ-loop list n text₀ at end₀ i₀ text end i = n - i
+
+loop-holds : tie.Need-loop-holds Inv-loop μ-loop
+loop-holds c = (omega arith, listed-none _ _ 4 tt _ _ _)
+
+shared-slice-read-wide : tie.Need-shared-slice-read-wide Inv-loop μ-loop
+shared-slice-read-wide c = search needs
+
+wide-requires : tie.Need-wide-requires Inv-loop μ-loop
+wide-requires c κs = search needs
+
+put-vector-requires : tie.Need-put-vector-requires Inv-loop μ-loop
+put-vector-requires c κs = search needs
+
+add-i : tie.Need-add-i Inv-loop μ-loop
+add-i c = search needs
+
+loop-less : tie.Need-loop-less Inv-loop μ-loop
+loop-less c = search needs
+
+loop-again : tie.Need-loop-again Inv-loop μ-loop
+loop-again c = (omega arith, listed-more _ _ (omega arith) (c .before .before .before .before .before .before .before .loop .inv .1) (c .before .before .before .before .wide .ensures .0) refl refl (c .before .before .put-vector .ensures))
+
+same-length : tie.Need-same-length Inv-loop μ-loop
+same-length c = search needs
+
+returns : tie.Need-returns Inv-loop μ-loop
+returns c = listed-all _ _ (c .before .loop .inv .1) (omega arith)
+
+pub put-vectors-spec : {M : Type 1} → statement M
+put-vectors-spec =
+    tie.close
+    (tie.spec
+    Inv-loop
+    μ-loop
+    loop-holds
+    shared-slice-read-wide
+    wide-requires
+    put-vector-requires
+    add-i
+    loop-less
+    loop-again
+    same-length
+    returns)

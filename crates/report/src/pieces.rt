@@ -1,0 +1,54 @@
+// The pieces of a text: words and numbers. Each is written at a place of the text and says where it ends.
+ghost use Prim.Native.Nat.{_+_, _<_, _≤_};
+ghost use mathlib.Core.Path.{_≡_};
+ghost use mathlib.Core.List.{_++_};
+ghost use lib.ListN.{length};
+ghost use Rattle.report.specs.Meaning.Text.{spelled, newline};
+ghost use Rattle.report.specs.Working.Put.{Put};
+
+pub fn put_word(word: &[u8], text: &mut [u8], at: usize) -> usize
+    requires { ⌜ at + length (now word) ≤ length (now text) ⌝ }
+    ensures { λ r. ⌜ Put (length (now (word .entry))) (now (word .entry)) at (now (text .entry)) (now (text .exit)) r ⌝ }
+{
+    let mut i = 0;
+    while i < word.len() {
+        text[at + i] = word[i];
+        i += 1;
+    }
+    at + i
+}
+
+// A number of 64 bits has at most 20 digits.
+pub fn put_number(n: usize, text: &mut [u8], at: usize) -> usize
+    requires { ⌜ at + 20 ≤ length (now text) ⌝ }
+    ensures { λ r. ⌜ Put 20 (spelled n) at (now (text .entry)) (now (text .exit)) r ⌝ }
+{
+    let mut digits = [0u8; 20];
+    let count = io::decimal(n as u64, &mut digits);
+    put_word(&digits[..count], text, at)
+}
+
+// A number behind a word.
+pub fn put_field(word: &[u8], n: usize, text: &mut [u8], at: usize) -> usize
+    requires { ⌜ at + (length (now word) + 20) ≤ length (now text) ⌝ }
+    ensures { λ r. ⌜ Put (length (now (word .entry)) + 20) (now (word .entry) ++ spelled n) at (now (text .entry)) (now (text .exit)) r ⌝ }
+{
+    let end = put_word(word, text, at);
+    put_number(n, text, end)
+}
+
+// A number behind a word, at the end of a line.
+pub fn put_last_field(word: &[u8], n: usize, text: &mut [u8], at: usize) -> usize
+    requires { ⌜ at + (length (now word) + 21) ≤ length (now text) ⌝ }
+    ensures { λ r. ⌜ Put (length (now (word .entry)) + 21) (now (word .entry) ++ spelled n ++ newline) at (now (text .entry)) (now (text .exit)) r ⌝ }
+{
+    let end = put_field(word, n, text, at);
+    put_word(b"\n", text, end)
+}
+
+// A byte as a number.
+pub fn wide(byte: u8) -> usize
+    ensures { λ r. ⌜ (r ≡ byte) × (r < 256) ⌝ }
+{
+    byte as usize
+}

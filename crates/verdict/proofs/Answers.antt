@@ -1,0 +1,83 @@
+-- What the verdict answers, from the two maps.
+use mathlib.Core.Path.{_≡_, ap, _∙_}
+use mathlib.Core.Logic.{_⊎_, inl, inr, ⊎-elim}
+use mathlib.Core.List.{List}
+use Prim.Native.Nat.{ℕ, _<_, _≤_, _*_}
+use native.Mathlib.Omega.{arith}
+use lib.Arith.{digits-lt}
+use lib.ListN.{length, take}
+use lib.Seq.{length-take-le}
+use Rattle.numbers.proofs.Order.{tri, zero-or}
+use Rattle.memory.specs.Meaning.Refusals.{Free, Lowest}
+use Rattle.memory.specs.Meaning.Slices.{Zero}
+use Rattle.machine.specs.declared.Found.{Found}
+use Rattle.machine.specs.declared.Pair.{Pair}
+use Rattle.machine.specs.declared.Sizes.{Sizes}
+use Rattle.machine.specs.Meaning.Machine.{Machine}
+use Rattle.machine.specs.Meaning.Tables.{Tables, number, at, In, oldMachine, newMachine, AlikeIn, AlignableIn, TraceIn}
+use Rattle.machine.specs.Meaning.Verdict.{LowestApart, IsApart, Written}
+use Rattle.machine.specs.Meaning.Verdict as W
+use Rattle.machine.proofs.Pairs.{alike-alignable}
+use Rattle.machine.proofs.Verdict.{written-unique}
+use Rattle.seek.specs.Working.Steps.{Good, Outcome, missing, steps}
+use Rattle.seek.specs.Working.Steps as E
+use Rattle.seek.proofs.Sets.{inside}
+use Rattle.verdict.specs.declared.Verdict.{Verdict}
+use Rattle.verdict.specs.Meaning.Decision.{ShortList, short}
+use Rattle.verdict.specs.Working.Marks.{AllAlignIn, SameIn, LowestZero, Mapped, Settled}
+
+module _ (t : Tables) where
+  abbrev z : Sizes
+  z = t .sizes
+
+  abbrev m0 : Machine
+  m0 = oldMachine t
+
+  abbrev m1 : Machine
+  m1 = newMachine t
+
+  module _ {depth reach : List ℕ} (m : Mapped t depth reach) where
+    alignable : (p : Pair) → In z p → 0 < at z reach p → AlignableIn t p
+    alignable p i s = ⊎-elim (λ e. absurd (omega arith)) (λ q. let y = m .both .alike .map .dist p i (q .0) (q .1) in record { list = y .list; leads = y .leads }) (zero-or (at z reach p))
+
+    module _ {r : Pair} (s : LowestZero z reach r) where
+      -- the scan stopped at a pair: it is the lowest that is not alignable
+      pub apart-of : r .old < z .old → LowestApart m0 m1 z r
+      apart-of h = record { inside = s .found h .0; apart = λ a. m .both .alike .map .none r (s .found h .0) (s .found h .1) (a .list) (a .leads); lower = λ q i l. alignable q i (go q i l (tri (q .old) (r .old))) }
+        where
+          go : (q : Pair) → In z q → number z q < number z r → (q .old < r .old) ⊎ ((q .old ≡ r .old) ⊎ (r .old < q .old)) → 0 < at z reach q
+          go q i l (inl a) = s .rows q i a
+          go q i l (inr (inl a)) = s .row h q i a (omega (arith, ap (λ (x : ℕ). x * z .new) a))
+          go q i l (inr (inr a)) = absurd (omega (arith, digits-lt {q = r .old} {m = q .old} {r = r .new} {c = z .new} a (s .found h .0 .in-new)))
+
+      -- the scan passed all pairs: each is alignable
+      pub all-align : z .old ≤ r .old → AllAlignIn t
+      all-align h = record { all = λ p i. alignable p i (s .rows p i (omega (arith, i .in-old))) }
+
+  -- 16 applies where the list is longer than the slice, and nothing where it fits
+  too-long : {n : ℕ} (l : List ℕ) → Written m0 m1 z l → n < length l → Lowest (ShortList m0 m1 z n) 16
+  too-long l w h = record { applies = short l w h; lower = λ k b s. above s b }
+    where
+      above : {n k : ℕ} → ShortList m0 m1 z n k → k < 16 → ⊥
+      above (short l w h) b = omega arith
+
+  fitting : Good t → (list list′ : List ℕ) (n : ℕ) → length list′ ≡ length list → n ≤ length list → Written m0 m1 z (take n list′) → Free (ShortList m0 m1 z (length list))
+  fitting g list list′ n e f w k (short l y h) = omega (arith, ap length (written-unique m0 m1 z (inside t g) l (take n list′) y w), length-take-le n list′ (omega (arith, e)))
+
+  -- the answers
+  module _ (g : Good t) {list list′ : List ℕ} (o : Zero list) (e : length list′ ≡ length list) where
+    pub settled-apart : {p : Pair} {n : ℕ} → LowestApart m0 m1 z p → Outcome (AlikeIn t p) (TraceIn t p) list list′ (Found.Steps n) → Settled t (length list) list′ (Verdict.Apart p n)
+    settled-apart {p} w (steps a n f s b) =
+        let v : IsApart m0 m1 z p (take n list′) = record { lowest = w; trace = s } in
+        record { keeps = (fitting g list list′ n e f (W.apart p v), record { sought = v; fits = omega (arith, e); beyond = λ i h. b i h ∙ o i (omega arith) }) }
+
+    pub settled-same : {n : ℕ} → Outcome ⊥ (SameIn t) list list′ (Found.Steps n) → Settled t (length list) list′ (Verdict.Same n)
+    settled-same (steps a n f s b) = record { keeps = (fitting g list list′ n e f (W.same s), record { sought = s; fits = omega (arith, e); beyond = λ i h. b i h ∙ o i (omega arith) }) }
+
+  pub settled-no-trace : {list list′ : List ℕ} {p : Pair} {n : ℕ} → Zero list → LowestApart m0 m1 z p → Outcome (AlikeIn t p) (TraceIn t p) list list′ (Found.Refused n) → Settled t (length list) list′ (Verdict.Refused 16)
+  settled-no-trace {p = p} o w (missing a q) = absurd (w .apart (alike-alignable m0 m1 _ p a))
+  settled-no-trace {p = p} o w (E.short a l s h q) = record { keeps = (too-long l (W.apart p (record { lowest = w; trace = s })) h, rw q o) }
+
+  pub settled-no-list : {list list′ : List ℕ} {n : ℕ} → Zero list → Outcome ⊥ (SameIn t) list list′ (Found.Refused n) → Settled t (length list) list′ (Verdict.Refused 16)
+  settled-no-list o (missing a q) = absurd a
+  settled-no-list o (E.short a l s h q) = record { keeps = (too-long l (W.same s) h, rw q o) }

@@ -1,0 +1,53 @@
+-- The promise of `judge`, for a call that is turned away at once and for one that is not.
+use mathlib.Core.Path.{_≡_, _∙_}
+use mathlib.Core.Logic.{_⊎_, inl, inr}
+use mathlib.Core.List.{List}
+use Prim.Native.Nat.{ℕ, _≤_, min}
+use native.Mathlib.Omega.{arith}
+use lib.ListN.{length}
+use Rattle.memory.specs.Meaning.Refusals.{Free, LowestOrNone}
+use Rattle.memory.specs.Meaning.Slices.{Zero, Cleared}
+use Rattle.memory.proofs.Refusals.{lowest-first, keeps-second}
+use Rattle.machine.specs.Meaning.Tables.{Tables, pairs, oldMachine, newMachine}
+use Rattle.seek.specs.Meaning.Faults.{Fault}
+use Rattle.seek.specs.Meaning.Lent.{Lent, left}
+use Rattle.seek.specs.Working.Steps.{Good, Both}
+use Rattle.seek.proofs.Refusals.{fault-most, good, room-enough}
+use Rattle.verdict.specs.declared.Verdict.{Verdict}
+use Rattle.verdict.specs.Meaning.Decision.{reply, Decided, ShortList, short}
+use Rattle.verdict.specs.Meaning.Promise.{JudgeFault, call, list, Judges}
+use Rattle.verdict.specs.Working.Marks.{Mapped, Settled}
+
+-- a call that is not turned away: tables and scratch of a and b entries serve for both maps
+module _ {t : Tables} {a b : ℕ} (none : Free (Fault t (min a b))) where
+  pub enough : {n m : ℕ} → n ≡ a → m ≡ b → Good t × ((pairs (t .sizes) ≤ n) × (pairs (t .sizes) ≤ m))
+  enough d r = let h = room-enough none in (good none, (omega arith, omega arith))
+
+  pub mapped : {depth reach : List ℕ} → length depth ≡ a → length reach ≡ b → Both t depth reach → Mapped t depth reach
+  mapped d r m = let e = enough d r in record { good = e .0; depth-room = e .1 .0; reach-room = e .1 .1; both = m }
+
+module _ (t : Tables) (s : Lent) where
+  abbrev Room : ℕ → Type 0
+  Room n = Fault t (min (s .depth) (s .reach)) n
+
+  abbrev Short : ℕ → Type 0
+  Short n = ShortList (oldMachine t) (newMachine t) (t .sizes) (s .written) n
+
+  either : (n : ℕ) → JudgeFault t s n → Room n ⊎ Short n
+  either n (call f) = inl f
+  either n (list f) = inr f
+
+  above : {n m : ℕ} → Room n → Short m → n ≤ m
+  above f (short l w h) = omega (arith, fault-most f)
+
+  pub judged-refused : {depth reach written : List ℕ} {n : ℕ} → (n ≡ 0 → ⊥) → LowestOrNone (Fault t (min (s .depth) (s .reach))) n → Cleared (s .depth) depth → Cleared (s .reach) reach → Cleared (s .written) written → Judges t s (left depth reach written) (Verdict.Refused n)
+  judged-refused z l a b c =
+      let f = l .some z in
+      record { keeps = (lowest-first Room Short (JudgeFault t s) (λ m x. call x) (λ m x. list x) either f (λ m x. above (f .applies) x), c .zero); tidy = record { depth = a; reach = b; written = c .size } }
+
+  module _ (none : Free (Fault t (min (s .depth) (s .reach)))) where
+    pub judged : {depth reach written : List ℕ} {r : Verdict} → {d n w : ℕ} → Settled t w written r → Cleared d depth → Cleared n reach → w ≡ s .written → d ≡ s .depth → n ≡ s .reach → length written ≡ w → Judges t s (left depth reach written) r
+    judged {written = written} {r} k a b ew ed er e = record {
+      keeps = keeps-second Room Short (JudgeFault t s) (λ m x. call x) (λ m x. list x) either (Decided (oldMachine t) (newMachine t) (t .sizes) written) (Zero written) none (reply r) (rw ew at (k .keeps));
+      tidy = record { depth = rw ed at a; reach = rw er at b; written = e ∙ ew };
+    }

@@ -1,0 +1,108 @@
+-- What the promise of `judge` shuts out: a refusal without a number, and two answers to one call. And 16 is measured on a list that
+-- there always is.
+use mathlib.Core.Path.{_≡_, sym, ap, _∙_}
+use mathlib.Core.List.{List}
+use Prim.Native.Nat.{ℕ, _<_, min}
+use native.Mathlib.Omega.{arith}
+use lib.ListN.{length, take}
+use lib.Seq.{length-take-le}
+use Rattle.memory.specs.Meaning.Refusals.{Free, answer, refusal}
+use Rattle.memory.specs.Meaning.Slices.{Zero}
+use Rattle.memory.proofs.Refusals.{kept-unique}
+use Rattle.memory.proofs.Slices.{zero-unique}
+use Rattle.memory.proofs.Slices.{front-unique}
+use Rattle.machine.specs.declared.Sizes.{Sizes}
+use Rattle.machine.specs.Meaning.Machine.{Machine}
+use Rattle.machine.specs.Meaning.Tables.{Tables, oldMachine, newMachine}
+use Rattle.machine.specs.Meaning.Verdict.{Written}
+use Rattle.machine.specs.Meaning.Verdict as W
+use Rattle.machine.specs.Working.Pairs.{Closed}
+use Rattle.machine.proofs.Verdict.{written-unique, apart-unique, same-not-apart}
+use Rattle.machine.proofs.Written.{written-exists}
+use Rattle.seek.specs.Meaning.Faults.{Fault}
+use Rattle.seek.specs.Meaning.Lent.{Lent, Left}
+use Rattle.seek.proofs.Refusals.{fault-some, good}
+use Rattle.seek.proofs.Sets.{inside}
+use Rattle.verdict.specs.declared.Verdict.{Verdict}
+use Rattle.verdict.specs.Meaning.Decision.{Decision, same, apart, reply, stepsOf, Says, Decided, short}
+use Rattle.verdict.specs.Meaning.Promise.{JudgeFault, call, list, Judges}
+
+-- an answer is known by its reply
+reply-one : (q r : Verdict) → reply q ≡ reply r → q ≡ r
+reply-one (Verdict.Same n) (Verdict.Same k) e = cc
+reply-one (Verdict.Same n) (Verdict.Apart w k) e = cc
+reply-one (Verdict.Same n) (Verdict.Refused k) e = cc
+reply-one (Verdict.Apart v n) (Verdict.Same k) e = cc
+reply-one (Verdict.Apart v n) (Verdict.Apart w k) e = cc
+reply-one (Verdict.Apart v n) (Verdict.Refused k) e = cc
+reply-one (Verdict.Refused n) (Verdict.Same k) e = cc
+reply-one (Verdict.Refused n) (Verdict.Apart w k) e = cc
+reply-one (Verdict.Refused n) (Verdict.Refused k) e = cc
+
+-- two machines, and two list slices of one length
+module _ (m0 m1 : Machine) (z : Sizes) (closed : Closed m0 m1 z) where
+  written : {l : List ℕ} (x : Decision) → Says m0 m1 z l x → Written m0 m1 z l
+  written (same n) s = W.same s
+  written (apart p n) s = W.apart p s
+
+  module _ (a b : List ℕ) (e : length a ≡ length b) where
+    front : (x y : Decision) → Decided m0 m1 z a x → Decided m0 m1 z b y → take (stepsOf x) a ≡ take (stepsOf y) b
+    front x y p q = written-unique m0 m1 z closed (take (stepsOf x) a) (take (stepsOf y) b) (written x (p .sought)) (written y (q .sought))
+
+    steps : (x y : Decision) → Decided m0 m1 z a x → Decided m0 m1 z b y → stepsOf x ≡ stepsOf y
+    steps x y p q = sym (length-take-le (stepsOf x) a (p .fits)) ∙ ap length (front x y p q) ∙ length-take-le (stepsOf y) b (q .fits)
+
+    -- no two decisions are right, and no two lists
+    pub decision-unique : (x y : Decision) → Decided m0 m1 z a x → Decided m0 m1 z b y → x ≡ y
+    decision-unique (same n) (same k) p q = ap same (steps (same n) (same k) p q)
+    decision-unique (same n) (apart w k) p q = absurd (same-not-apart m0 m1 z _ _ w (p .sought) (q .sought))
+    decision-unique (apart v n) (same k) p q = absurd (same-not-apart m0 m1 z _ _ v (q .sought) (p .sought))
+    decision-unique (apart v n) (apart w k) p q =
+        let f = apart-unique m0 m1 z v w (p .sought .lowest) (q .sought .lowest) in
+        let g = steps (apart v n) (apart w k) p q in
+        cc
+
+    pub list-unique : (x y : Decision) → Decided m0 m1 z a x → Decided m0 m1 z b y → a ≡ b
+    list-unique x y p q =
+        let n = steps x y p q in
+        front-unique (stepsOf x) a b e (front x y p q ∙ ap (λ (k : ℕ). take k b) (sym n)) (p .beyond) (rw (sym n) at (q .beyond))
+
+module _ (t : Tables) (s : Lent) where
+  abbrev m0 : Machine
+  m0 = oldMachine t
+
+  abbrev m1 : Machine
+  m1 = newMachine t
+
+  -- no number is 0
+  fault-positive : {n : ℕ} → JudgeFault t s n → 0 < n
+  fault-positive (call f) = omega (arith, fault-some f)
+  fault-positive (list (short l w h)) = omega arith
+
+  pub refused-0-shut : (e : Left) → Judges t s e (Verdict.Refused 0) → ⊥
+  refused-0-shut e j = omega (arith, fault-positive (j .keeps .0 .applies))
+
+  module _ (none : Free (Fault t (min (s .depth) (s .reach)))) where
+    -- an accepted call has a list, and one only: 16 is measured on it
+    pub judged-list : (l : List ℕ) × Written m0 m1 (t .sizes) l
+    judged-list = written-exists m0 m1 (t .sizes) (inside t (good none))
+
+    pub judged-list-unique : (a b : List ℕ) → Written m0 m1 (t .sizes) a → Written m0 m1 (t .sizes) b → a ≡ b
+    judged-list-unique = written-unique m0 m1 (t .sizes) (inside t (good none))
+
+  closed : Free (JudgeFault t s) → Closed m0 m1 (t .sizes)
+  closed f = inside t (good (λ n x. f n (call x)))
+
+  -- no two answers keep one promise, and no two list slices
+  module _ {d e : Left} {q r : Verdict} (j : Judges t s d q) (k : Judges t s e r) where
+    sizes : length (d .written) ≡ length (e .written)
+    sizes = j .tidy .written ∙ sym (k .tidy .written)
+
+    pub judges-unique : (reply q ≡ reply r) × (d .written ≡ e .written)
+    judges-unique =
+        kept-unique (JudgeFault t s) (Decided m0 m1 (t .sizes)) Zero (d .written) (e .written)
+        (λ f x y u v. (decision-unique m0 m1 (t .sizes) (closed f) (d .written) (e .written) sizes x y u v, list-unique m0 m1 (t .sizes) (closed f) (d .written) (e .written) sizes x y u v))
+        (zero-unique (d .written) (e .written) sizes) (reply q) (reply r) (j .keeps) (k .keeps)
+
+    pub verdict-unique : q ≡ r
+    verdict-unique = reply-one q r (judges-unique .0)

@@ -1,0 +1,7 @@
+pub mod Images
+pub mod Parts
+pub mod Scanning
+pub mod Aligning
+pub mod Answers
+pub mod Judging
+pub mod Laws

@@ -1,0 +1,76 @@
+-- `decide`: by the scan for a pair that is not alignable, its trace, or the list of the rounds.
+use Rattle.verdict.proofs.Answers.{apart-of, all-align, settled-apart, settled-same, settled-no-trace, settled-no-list}
+use borrow.Author.Needs.{needs}
+use Rattle.verdict.proofs.decide.Statement.{statement}
+use Rattle.verdict.proofs.decide.Tie as tie
+
+lowest-zero-requires : tie.Need-lowest-zero-requires
+lowest-zero-requires c κs = search needs
+
+find-trace-requires : tie.Need-find-trace-requires
+find-trace-requires c κs =
+    (c .before .before .before .before .before .before .before .before .before .before .before .before .pre .0 .good, (c .before .before .before .before .before .before .before .before .before .before .before .before .pre .0 .depth-room, (c .before .before .before .before .before .before .before .before .before .before .before .before .pre .0 .both .apart, (apart-of _ (c .before .before .before .before .before .before .before .before .before .before .before .before .pre .0) (c .before .before .before .before .lowest-zero .ensures) (c .before .if1 .taken)) .inside)))
+
+enum-known-found : tie.Need-enum-known-found
+enum-known-found c = search needs
+
+enum-told : tie.Need-enum-told
+enum-told c = search needs
+
+same-length : tie.Need-same-length
+same-length c = search needs
+
+returns : tie.Need-returns
+returns c =
+    settled-no-trace _ (c .before .before .before .before .before .before .before .before .before .before .before .before .before .before .before .before .before .pre .1) (apart-of _ (c .before .before .before .before .before .before .before .before .before .before .before .before .before .before .before .before .before .pre .0) (c .before .before .before .before .before .before .before .before .before .lowest-zero .ensures) (c .before .before .before .before .before .before .if1 .taken)) (rw (c .enum-told .given .1) at (c .before .before .before .before .find-trace .ensures))
+
+same-length-2 : tie.Need-same-length-2
+same-length-2 c = search needs
+
+returns-2 : tie.Need-returns-2
+returns-2 c =
+    settled-apart _ (c .before .before .before .before .before .before .before .before .before .before .before .before .before .before .before .before .before .before .pre .0 .good) (c .before .before .before .before .before .before .before .before .before .before .before .before .before .before .before .before .before .before .pre .1) (c .before .before .before .before .before .find-trace .kept .1 .1 .1 .1 .1 .1 .1 .0) (apart-of _ (c .before .before .before .before .before .before .before .before .before .before .before .before .before .before .before .before .before .before .pre .0) (c .before .before .before .before .before .before .before .before .before .before .lowest-zero .ensures) (c .before .before .before .before .before .before .before .if1 .taken)) (rw (c .before .found .given .1) at (c .before .before .before .before .before .find-trace .ensures))
+
+align-requires : tie.Need-align-requires
+align-requires c κs =
+    (c .before .before .before .before .before .before .before .before .before .before .before .before .pre .0, (all-align _ (c .before .before .before .before .before .before .before .before .before .before .before .before .pre .0) (c .before .before .before .before .lowest-zero .ensures) (c .before .if1 .left), c .before .before .before .before .before .before .before .before .before .before .before .before .pre .1))
+
+enum-known-found-2 : tie.Need-enum-known-found-2
+enum-known-found-2 c = search needs
+
+enum-told-2 : tie.Need-enum-told-2
+enum-told-2 c = search needs
+
+same-length-3 : tie.Need-same-length-3
+same-length-3 c = search needs
+
+returns-3 : tie.Need-returns-3
+returns-3 c =
+    settled-no-list _ (c .before .before .before .before .before .before .before .before .before .before .before .before .before .before .before .before .before .pre .1) (rw (c .enum-told2 .given .1) at (c .before .before .before .before .align .ensures))
+
+same-length-4 : tie.Need-same-length-4
+same-length-4 c = search needs
+
+returns-4 : tie.Need-returns-4
+returns-4 c =
+    settled-same _ (c .before .before .before .before .before .before .before .before .before .before .before .before .before .before .before .before .before .before .pre .0 .good) (c .before .before .before .before .before .before .before .before .before .before .before .before .before .before .before .before .before .before .pre .1) (c .before .before .before .before .before .align .kept .1 .1 .1 .1 .1 .1 .1 .0) (rw (c .before .found2 .given .1) at (c .before .before .before .before .before .align .ensures))
+
+pub decide-spec : {M : Type 1} → statement M
+decide-spec =
+    tie.close
+    (tie.spec
+    lowest-zero-requires
+    find-trace-requires
+    enum-known-found
+    enum-told
+    same-length
+    returns
+    same-length-2
+    returns-2
+    align-requires
+    enum-known-found-2
+    enum-told-2
+    same-length-3
+    returns-3
+    same-length-4
+    returns-4)

@@ -1,0 +1,87 @@
+-- What the helpers of the verdict promise each other.
+--   AllAlignIn t            every pair of states of the tables t is alignable
+--   SameIn t l              Same, with the list l, is the verdict on the tables t
+--   nextOf nv next          the next state, by a table of nv vectors
+--   Leading n nv next       the table next of n states and nv vectors is long enough, and leads to states
+--   Source f n marks q      a marked state that f leads to q
+--   Image f n marks out     the marks out are those of the states to which f leads the marked states below n
+--   OpenAt z a b d i        the pair numbered i is marked in both designs, and by the map d not alike
+--   LowestZero z d r        r is the lowest pair for which the map d holds 0, or beyond all pairs
+--   Mapped t depth reach    the tables t are accepted, and both maps are right
+--   Added t p len l l′ n    the list of the pair p, of n steps, stands in l′ behind the first len entries of l; the rest is as it was
+--   Appended t p len l l′ r it is so, or there is no room for it
+--   Settled t n l′ r        the decision r on the tables t is right, with a list slice of n bytes that is left as l′
+use mathlib.Core.Path.{_≡_}
+use mathlib.Core.Bool.{Bool, true, false}
+use mathlib.Core.List.{List, _++_}
+use Prim.Native.Nat.{ℕ, _<_, _≤_, _+_, _*_}
+use lib.ListN.{length, getD, take}
+use lib.Seq.{slice}
+use Rattle.machine.specs.declared.Found.{Found}
+use Rattle.machine.specs.declared.Pair.{Pair}
+use Rattle.machine.specs.declared.Sizes.{Sizes}
+use Rattle.machine.specs.Meaning.Tables.{Tables, pairs, at, In, oldMachine, newMachine, ListIn}
+use Rattle.machine.specs.Meaning.Verdict.{AllAlign, IsSame}
+use Rattle.machine.specs.Working.Pairs.{pairAt}
+use Rattle.memory.specs.Meaning.Refusals.{Keeps}
+use Rattle.memory.specs.Meaning.Slices.{Zero}
+use Rattle.seek.specs.Working.Steps.{Good, Both}
+use Rattle.verdict.specs.declared.Verdict.{Verdict}
+use Rattle.verdict.specs.Meaning.Decision.{reply, Decided, ShortList}
+
+abbrev pub AllAlignIn : Tables → Type 0
+AllAlignIn t = AllAlign (oldMachine t) (newMachine t) (t .sizes)
+
+abbrev pub SameIn : Tables → List ℕ → Type 0
+SameIn t l = IsSame (oldMachine t) (newMachine t) (t .sizes) l
+
+abbrev pub nextOf : ℕ → List ℕ → ℕ → ℕ → ℕ
+nextOf nv next s v = getD next (s * nv + v) 0
+
+pub record Leading (n nv : ℕ) (next : List ℕ) : Type 0 where
+  pub few : n ≤ 128
+  pub few-vectors : nv ≤ 64
+  pub long : n * nv ≤ length next
+  pub stays : (i : ℕ) → i < n * nv → getD next i 0 < n
+
+pub record Source (f : ℕ → ℕ) (n : ℕ) (marks : List Bool) (q : ℕ) : Type 0 where
+  pub state : ℕ
+  pub under : state < n
+  pub marked : getD marks state false ≡ true
+  pub leads : f state ≡ q
+
+pub record Image (f : ℕ → ℕ) (n : ℕ) (marks out : List Bool) : Type 0 where
+  pub back : (q : ℕ) → q < n → getD out q false ≡ true → Source f n marks q
+  pub forth : (s : ℕ) → s < n → getD marks s false ≡ true → getD out (f s) false ≡ true
+
+pub record OpenAt (z : Sizes) (marks0 marks1 : List Bool) (d : List ℕ) (i : ℕ) : Type 0 where
+  pub mark0 : getD marks0 (pairAt z i .old) false ≡ true
+  pub mark1 : getD marks1 (pairAt z i .new) false ≡ true
+  pub apart : getD d i 0 ≡ 0 → ⊥
+
+pub record LowestZero (z : Sizes) (d : List ℕ) (r : Pair) : Type 0 where
+  pub found : r .old < z .old → In z r × (at z d r ≡ 0)
+  pub rows : (q : Pair) → In z q → q .old < r .old → 0 < at z d q
+  pub row : r .old < z .old → (q : Pair) → In z q → q .old ≡ r .old → q .new < r .new → 0 < at z d q
+
+pub record Mapped (t : Tables) (depth reach : List ℕ) : Type 0 where
+  pub good : Good t
+  pub depth-room : pairs (t .sizes) ≤ length depth
+  pub reach-room : pairs (t .sizes) ≤ length reach
+  pub both : Both t depth reach
+
+pub record Added (t : Tables) (p : Pair) (len : ℕ) (list list′ : List ℕ) (n : ℕ) : Type 0 where
+  pub part : List ℕ
+  pub its-list : ListIn t p part
+  pub fits : len + n ≤ length list
+  pub long : length list′ ≡ length list
+  pub joins : take (len + n) list′ ≡ take len list ++ part
+  pub slices : slice len (len + n) list′ ≡ part
+  pub rest : (i : ℕ) → len + n ≤ i → getD list′ i 0 ≡ getD list i 0
+
+pub data Appended (t : Tables) (p : Pair) (len : ℕ) (list list′ : List ℕ) : Found → Type 0 where
+  added : (n : ℕ) → Added t p len list list′ n → Appended t p len list list′ (Found.Steps n)
+  full : (part : List ℕ) → ListIn t p part → length list < len + length part → Appended t p len list list′ (Found.Refused 16)
+
+pub record Settled (t : Tables) (n : ℕ) (list′ : List ℕ) (r : Verdict) : Type 0 where
+  pub keeps : Keeps (ShortList (oldMachine t) (newMachine t) (t .sizes) n) (Decided (oldMachine t) (newMachine t) (t .sizes) list′) (Zero list′) (reply r)
