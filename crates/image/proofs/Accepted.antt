@@ -13,14 +13,14 @@ use Rattle.netlist.proofs.Same.{same-fault, same-sym}
 use Rattle.image.specs.Meaning.Format.{gateIn, netsIn, bytesIn, decoded, tailNet, bytesOf, Encodes}
 use Rattle.image.specs.Meaning.Faults.{ImageFault}
 use Rattle.image.proofs.Gates.{gate-is, one-net}
-use Rattle.image.proofs.Refusals.{fits}
+use Rattle.image.proofs.Refusals.{within-limits}
 use Rattle.image.proofs.Decoding.{Decodes, decodes, encoded}
 use Rattle.image.proofs.Carried.{tail-data, tail-shown, tail-cases, image-3, image-5}
 
 -- an image to which no number applies encodes its design, which is accepted
 module _ (b : List ℕ) (none : Free (ImageFault b)) where
   w : Decodes b (decoded b)
-  w = decodes b (fits (λ n f. none n (f .0)))
+  w = decodes b (within-limits (λ n f. none n (f .0)))
 
   pub image-encodes : Encodes (decoded b) b
   image-encodes = encoded b (decoded b) w (λ n h. none n)

@@ -17,12 +17,12 @@ use Rattle.memory.proofs.Lists.{getD-listOf, filled-listOf}
 use Rattle.memory.proofs.Refusals.{Clean}
 use Rattle.netlist.specs.declared.Cell.{Cell}
 use Rattle.netlist.specs.declared.Design.{Design}
-use Rattle.netlist.specs.Meaning.Limits.{mostLatches, mostOutputs, mostCells}
+use Rattle.netlist.specs.Meaning.Limits.{mostLatches, mostOutputs, mostCells, kindBits}
 use Rattle.netlist.specs.Meaning.Gates.{blankCell}
 use Rattle.netlist.specs.Meaning.Nets.{gateAt}
 use Rattle.image.specs.Meaning.Format.{inputsIn, latchesIn, outputsIn, countIn, bitsIn, bytesIn, kindIn, firstIn, secondIn, tailIn, gateIn, cellIn, cellAt, decoded, tailNet, bitsOf, Encodes}
 use Rattle.image.specs.Meaning.Faults.{ImageFault}
-use Rattle.image.specs.Working.Scanning.{Fits}
+use Rattle.image.specs.Working.Scanning.{WithinLimits}
 use Rattle.image.proofs.Spelling.{field-lt}
 use Rattle.image.proofs.Gates.{kind-gate, first-gate, second-gate}
 
@@ -35,7 +35,7 @@ pub record Decodes (b : List ℕ) (d : Design) : Type 0 where
   pub gates : (i : ℕ) → i < countIn b → gateAt d i ≡ gateIn b i
   pub tails : (t : ℕ) → t < latchesIn b + outputsIn b → tailNet d t ≡ tailIn b t
 
-module _ (b : List ℕ) (w : Fits b) where
+module _ (b : List ℕ) (w : WithinLimits b) where
   entry : {A : Type 0} (f : ℕ → A) (z : A) (n m k : ℕ) → n ≤ m → k < n → getD (listOf m (λ j. cond (ltb j n) (f j) z)) k z ≡ f k
   entry f z n m k h l = getD-listOf m (λ j. cond (ltb j n) (f j) z) z k (omega arith) ∙ simp (lt-ltb k n l)
 
@@ -90,7 +90,7 @@ module _ (b : List ℕ) (d : Design) (w : Decodes b d) (none : Clean (ImageFault
     latches = sym (w .latches);
     outputs = sym (w .outputs);
     count = sym (w .count);
-    kinds = λ i h. sym (rw (gate i h) (kind-gate _ _ _ (field-lt b (cellAt i) 3)));
+    kinds = λ i h. sym (rw (gate i h) (kind-gate _ _ _ (field-lt b (cellAt i) kindBits)));
     firsts = λ i h. sym (rw (gate i h) (first-gate (kindIn b i) (firstIn b i) (secondIn b i)));
     seconds = λ i h. sym (rw (gate i h) (second-gate (kindIn b i) (firstIn b i) (secondIn b i) (unread i (omega (arith, w .count)))));
     tails = λ t h. sym (w .tails t (omega (arith, w .latches, w .outputs)));

@@ -12,13 +12,13 @@ use Rattle.image.specs.declared.Answer.the-variants.{Accepted, Refused}
 use Rattle.image.specs.declared.Reading.{Reading}
 use Rattle.image.specs.Meaning.Format.{bytesIn}
 use Rattle.image.specs.Meaning.Faults.{HeaderFault}
-use Rattle.image.specs.Meaning.Reading.{Measures, Reads, lengthReply}
+use Rattle.image.specs.Meaning.Reading.{Measures, ReadsImage, lengthReply}
 use Rattle.image.proofs.Refusals.{no-0}
 
 pub length-not-zero : {b : List ℕ} → Measures b (Length·variants.Refused 0) → ⊥
 length-not-zero p = no-0 (p .keeps .0 .applies .0)
 
-pub read-not-zero : {b : List ℕ} {d : Design} → Reads b (record { answer = Refused 0; design = d }) → ⊥
+pub read-not-zero : {b : List ℕ} {d : Design} → ReadsImage b (record { answer = Refused 0; design = d }) → ⊥
 read-not-zero p = no-0 (p .keeps .0 .applies)
 
 length-of : Reply ℕ → Length
@@ -34,11 +34,11 @@ pub one-length : (b : List ℕ) (r t : Length) → Measures b r → Measures b t
 one-length b r t p q =
     sym (length-back r) ∙ ap length-of (reply-unique (HeaderFault b) (λ n. n ≡ bytesIn b) (Unit {0}) (λ x y e f. e ∙ sym f) (lengthReply r) (lengthReply t) (p .keeps) (q .keeps)) ∙ length-back t
 
-one-reading : {b : List ℕ} (x y : Answer) (d c : Design) → Reads b (record { answer = x; design = d }) → Reads b (record { answer = y; design = c }) → (x ≡ y) × (d ≡ c)
+one-reading : {b : List ℕ} (x y : Answer) (d c : Design) → ReadsImage b (record { answer = x; design = d }) → ReadsImage b (record { answer = y; design = c }) → (x ≡ y) × (d ≡ c)
 one-reading {b} Accepted Accepted d c p q = (refl, p .keeps .1 ∙ sym (q .keeps .1))
 one-reading {b} Accepted (Refused m) d c p q = absurd (p .keeps .0 m (q .keeps .0 .applies))
 one-reading {b} (Refused n) Accepted d c p q = absurd (q .keeps .0 n (p .keeps .0 .applies))
 one-reading {b} (Refused n) (Refused m) d c p q = (ap Refused (lowest-unique (p .keeps .0) (q .keeps .0)), p .keeps .1 ∙ sym (q .keeps .1))
 
-pub one-reply : (b : List ℕ) (r t : Reading) → Reads b r → Reads b t → (r .answer ≡ t .answer) × (r .design ≡ t .design)
+pub one-reply : (b : List ℕ) (r t : Reading) → ReadsImage b r → ReadsImage b t → (r .answer ≡ t .answer) × (r .design ≡ t .design)
 one-reply b r t p q = one-reading (r .answer) (t .answer) (r .design) (t .design) p q

@@ -1,15 +1,16 @@
 -- `10 00 00 00` is read as the empty design: computed.
-use Prim.Native.Nat.{ℕ, _/_, _<_, _≤_}
+use Prim.Native.Nat.{ℕ, _*_, _/_, _<_, _≤_}
 use mathlib.Core.Path.{_≡_, refl}
 use mathlib.Core.List.{List, [], _∷_}
 use native.Mathlib.Omega.{arith}
 use native.Mathlib.Nat.{zero-div}
+use lib.ListN.{length}
 use Rattle.numbers.specs.Meaning.Bits.{horner}
 use Rattle.memory.specs.Meaning.Lists.{listOf}
 use Rattle.memory.specs.Meaning.Refusals.{Free}
 use Rattle.netlist.specs.Meaning.Loops.{Path}
 use Rattle.netlist.specs.Meaning.Faults.{DesignFault, Accepted}
-use Rattle.image.specs.Meaning.Format.{bitAt, fieldAt, decoded, Encodes}
+use Rattle.image.specs.Meaning.Format.{bitAt, fieldAt, decoded, bitsOf, Encodes}
 use Rattle.image.specs.Meaning.Faults.{ImageFault}
 use Rattle.image.specs.Meaning.Reading.{emptyDesign}
 use Rattle.image.proofs.Accepted.{clean}
@@ -52,7 +53,7 @@ empty-encoded = record {
   pad = λ i h p. pad i h p;
 }
   where
-    pad : (i : ℕ) → 25 ≤ i → i < 32 → bitAt emptyBytes i ≡ 0
+    pad : (i : ℕ) → bitsOf emptyDesign ≤ i → i < 8 * length emptyBytes → bitAt emptyBytes i ≡ 0
     pad i h p =
         let q : i / 8 ≡ 3 = omega arith in
         rw (q, zero-div)

@@ -13,7 +13,7 @@ use Rattle.netlist.proofs.Numbers.{Kind, three, five, nine, kind}
 use Rattle.image.specs.Meaning.Format.{bitAt, fieldAt, countIn, netsIn, bitsIn, bytesIn, decoded}
 use Rattle.image.specs.Meaning.Faults.{ImageFault, HeaderFault}
 use Rattle.image.specs.Working.Scanning.{UnreadAbove, UnreadBelow}
-use Rattle.image.proofs.Refusals.{refused, no-6, no-7, no-8, fits, clean-5}
+use Rattle.image.proofs.Refusals.{refused, no-6, no-7, no-8, within-limits, clean-5}
 use Rattle.image.proofs.Spelling.{zero-bits, field-some}
 use Rattle.image.proofs.Decoding.{Decodes, decodes}
 use Rattle.image.proofs.Carried.{image-3, image-5, no-5}
@@ -43,7 +43,7 @@ of-loop (DesignFault.loop i p) = ImageFault.loop i p
 
 module _ (b : List ℕ) (head : Free (HeaderFault b)) (n : ℕ) (found : LowestOrNone (DesignFault (decoded b)) n) where
   w : Decodes b (decoded b)
-  w = decodes b (fits head)
+  w = decodes b (within-limits head)
 
   no-design-3 : DesignFault (decoded b) 3 → ⊥
   no-design-3 f = head 3 (image-3 b (decoded b) w f, lit≤ tt)

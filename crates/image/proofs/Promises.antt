@@ -7,14 +7,14 @@ use Rattle.memory.specs.Meaning.Refusals.{LowestOrNone, Lowest, answer, refusal
 use Rattle.image.specs.declared.Answer.the-variants.{Refused}
 use Rattle.image.specs.declared.Reading.{Reading}
 use Rattle.image.specs.Meaning.Faults.{ImageFault, HeaderFault}
-use Rattle.image.specs.Meaning.Reading.{Reads, emptyDesign}
+use Rattle.image.specs.Meaning.Reading.{ReadsImage, emptyDesign}
 
 -- a refusal with the lowest number, and the empty design beside it
-pub turned-away : (b : List ℕ) (n : ℕ) (r : Reading) → (n ≡ 0 → ⊥) → LowestOrNone (ImageFault b) n → r .answer ≡ Refused n → r .design ≡ emptyDesign → Reads b r
+pub turned-away : (b : List ℕ) (n : ℕ) (r : Reading) → (n ≡ 0 → ⊥) → LowestOrNone (ImageFault b) n → r .answer ≡ Refused n → r .design ≡ emptyDesign → ReadsImage b r
 turned-away b n r z l a e = record { keeps = rw a (l .some z, e) }
 
 -- a number of the header is the lowest of all
-pub turned-head : (b : List ℕ) (n : ℕ) (r : Reading) → (n ≡ 0 → ⊥) → LowestOrNone (HeaderFault b) n → r .answer ≡ Refused n → r .design ≡ emptyDesign → Reads b r
+pub turned-head : (b : List ℕ) (n : ℕ) (r : Reading) → (n ≡ 0 → ⊥) → LowestOrNone (HeaderFault b) n → r .answer ≡ Refused n → r .design ≡ emptyDesign → ReadsImage b r
 turned-head b n r z l a e =
     let h = l .some z in
     let w : Lowest (ImageFault b) n = record { applies = h .applies .0; lower = λ m k f. h .lower m k (f, omega (arith, h .applies .1)) } in

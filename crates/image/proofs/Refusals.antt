@@ -11,7 +11,7 @@ use Rattle.memory.specs.Meaning.Refusals.{Free, LowestOrNone}
 use Rattle.memory.proofs.Refusals.{Clean, clean-more, some-number, no-number}
 use Rattle.image.specs.Meaning.Format.{bitAt, versionIn, countIn, bitsIn, bytesIn, kindIn, secondIn}
 use Rattle.image.specs.Meaning.Faults.{ImageFault, HeaderFault}
-use Rattle.image.specs.Working.Scanning.{Fits}
+use Rattle.image.specs.Working.Scanning.{WithinLimits}
 
 pub refused : {P : ℕ → Type 0} (n : ℕ) → (n ≡ 0 → ⊥) → P n → Clean P n → LowestOrNone P n
 refused n z p c = some-number z (record { applies = p; lower = c })
@@ -27,7 +27,7 @@ no-1 h (ImageFault.short l) = not-lt h l
 pub no-2 : {b : List ℕ} → versionIn b ≡ 1 → ImageFault b 2 → ⊥
 no-2 h (ImageFault.version l) = l h
 
-pub no-3 : {b : List ℕ} → Fits b → ImageFault b 3 → ⊥
+pub no-3 : {b : List ℕ} → WithinLimits b → ImageFault b 3 → ⊥
 no-3 f (ImageFault.inputs l) = not-lt (f .few-inputs) l
 no-3 f (ImageFault.latches l) = not-lt (f .few-latches) l
 no-3 f (ImageFault.outputs l) = not-lt (f .few-outputs) l
@@ -70,8 +70,8 @@ module _ {b : List ℕ} (h : Free (HeaderFault b)) where
   pub clean-5 : Clean (ImageFault b) 5
   clean-5 m l f = h m (f, omega arith)
 
-  pub fits : Fits b
-  fits = record {
+  pub within-limits : WithinLimits b
+  within-limits = record {
     few-inputs = le-of-not-lt (λ l. h 3 (ImageFault.inputs l, lit≤ tt));
     few-latches = le-of-not-lt (λ l. h 3 (ImageFault.latches l, lit≤ tt));
     few-outputs = le-of-not-lt (λ l. h 3 (ImageFault.outputs l, lit≤ tt));

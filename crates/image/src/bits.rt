@@ -1,10 +1,40 @@
-// Bits and bit fields of an image.
+// Bits and bit fields of an image, and the reader that knows its bytes and its bit position.
 ghost use mathlib.Core.Path.{_≡_};
 ghost use Prim.Native.Nat.{_^_, _<_, _≤_};
 ghost use Rattle.image.specs.Meaning.Format.{bitAt, fieldAt};
 
-// The number that `width` bits from bit `at` on spell.
+// The number that `width` bits from bit `at` on spell, by way of the reader. Whoever calls this has plain parameters.
 pub fn field(image: &[u8], at: usize, width: usize) -> u16
+    requires { ⌜ (at < 65536) × (width ≤ 16) ⌝ }
+    ensures { λ r. ⌜ (r ≡ fieldAt (now (image .entry)) at width) × (r < 2 ^ width) ⌝ }
+{
+    open(image, at).take(width)
+}
+
+// An image and a bit position in it.
+pub struct BitReader<'a> {
+    pub image: &'a [u8],
+    pub at: usize,
+}
+
+impl<'a> BitReader<'a> {
+    // The number that the next `width` bits spell.
+    pub fn take(self, width: usize) -> u16
+        requires { ⌜ (self .at < 65536) × (width ≤ 16) ⌝ }
+        ensures { λ r. ⌜ (r ≡ fieldAt (now (self .entry .image)) (self .entry .at) width) × (r < 2 ^ width) ⌝ }
+    {
+        spell(self.image, self.at, width)
+    }
+}
+
+pub fn open<'a>(image: &'a [u8], at: usize) -> BitReader<'a>
+    ensures { λ r. ⌜ (r .image ≡ image .entry) × (r .at ≡ at) ⌝ }
+{
+    BitReader { image, at }
+}
+
+// The number that `width` bits of a slice spell.
+fn spell(image: &[u8], at: usize, width: usize) -> u16
     requires { ⌜ (at < 65536) × (width ≤ 16) ⌝ }
     ensures { λ r. ⌜ (r ≡ fieldAt (now (image .entry)) at width) × (r < 2 ^ width) ⌝ }
 {

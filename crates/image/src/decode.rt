@@ -8,7 +8,7 @@ ghost use Rattle.netlist.specs.Meaning.Limits.{mostCells, countBits, kindBits, 
 ghost use Rattle.netlist.specs.Meaning.Gates.{gateOf, blankCell};
 ghost use Rattle.image.specs.Meaning.Format.{gateIn, cellIn, tailIn, decoded};
 ghost use Rattle.image.specs.Meaning.Reading.{emptyDesign};
-ghost use Rattle.image.specs.Working.Scanning.{Fits};
+ghost use Rattle.image.specs.Working.Scanning.{WithinLimits};
 use crate::fields;
 use netlist::Cell;
 use netlist::Design;
@@ -16,7 +16,7 @@ use netlist::Gate;
 use netlist::Image;
 
 pub fn decode(image: &[u8]) -> Design
-    requires { ⌜ Fits (now image) ⌝ }
+    requires { ⌜ WithinLimits (now image) ⌝ }
     ensures { λ r. ⌜ r ≡ decoded (now (image .entry)) ⌝ }
 {
     let latches = fields::latches(image);

@@ -5,7 +5,7 @@ mod faults;
 mod fields;
 
 ghost use mathlib.Core.Path.{_≡_};
-ghost use Rattle.image.specs.Meaning.Reading.{Measures, Reads, emptyDesign};
+ghost use Rattle.image.specs.Meaning.Reading.{Measures, ReadsImage, emptyDesign};
 use netlist::Design;
 
 pub enum Length {
@@ -37,7 +37,7 @@ pub struct Reading {
 
 // The design that an image spells.
 pub fn read(image: &[u8]) -> Reading
-    ensures { λ r. ⌜ Reads (now (image .entry)) r ⌝ }
+    ensures { λ r. ⌜ ReadsImage (now (image .entry)) r ⌝ }
 {
     let number = faults::header_fault(image);
     if number != 0 {

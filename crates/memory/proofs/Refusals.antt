@@ -63,12 +63,6 @@ pub keeps-map : {A : Type 0} {P Q : ℕ → Type 0} {Answers Others : A → Type
 keeps-map to from says clear (answer a) p = (λ n q. p .0 n (from n q), says a (p .1))
 keeps-map to from says clear (refusal n) p = (record { applies = to n (p .0 .applies); lower = λ m h q. p .0 .lower m h (from m q) }, clear (p .1))
 
--- where no number applies, the reply is an answer, and a right one
-pub answered : {A : Type 0} (P : ℕ → Type 0) (Answers : A → Type 0) (Cleared : Type 0) (r : Reply A)
-    → Free P → Keeps P Answers Cleared r → (a : A) × (r ≡ answer a) × Answers a
-answered P Answers Cleared (answer a) f k = (a, refl, k .1)
-answered P Answers Cleared (refusal n) f k = absurd (f n (k .0 .applies))
-
 -- the lower of two numbers, by cases
 pub lower-one : (a b : ℕ) → b ≡ 0 → a ≡ lowerNumber a b
 lower-one zero zero z = refl

@@ -9,13 +9,13 @@ use Rattle.netlist.specs.Meaning.Limits.{netBits}
 use Rattle.writer.specs.Working.Packing.{joined}
 
 module _ (w : ℕ) (h : w ≤ netBits) where
-  power-le : 2 ^ w ≤ 512
-  power-le = pow-mono {i = w} {j = 9} h
+  power-le : 2 ^ w ≤ 2 ^ netBits
+  power-le = pow-mono {i = w} {j = netBits} h
 
   pub shift : (1 * 2 ^ w) % 4294967296 ≡ 2 ^ w
   shift = omega (arith, power-le)
 
-  pub product-le : (x : ℕ) → x < 2 ^ 20 → x * 2 ^ w ≤ 2 ^ 20 * 512
+  pub product-le : (x : ℕ) → x < 2 ^ 20 → x * 2 ^ w ≤ 2 ^ 20 * 2 ^ netBits
   product-le x l = mul-le-mul {n₂ = 2 ^ 20} (omega arith) power-le
 
 pub apart : (w : ℕ) {x z y v : ℕ} → joined x y w ≡ joined z v w → y < 2 ^ w → v < 2 ^ w → (x ≡ z) × (y ≡ v)

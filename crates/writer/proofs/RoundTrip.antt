@@ -18,7 +18,7 @@ use Rattle.image.specs.declared.Answer.the-variants as Answer·variants
 use Rattle.image.specs.declared.Reading.{Reading}
 use Rattle.image.specs.Meaning.Format.{bytesOf, tailNet, decoded, Encodes}
 use Rattle.image.specs.Meaning.Faults.{ImageFault}
-use Rattle.image.specs.Meaning.Reading.{Reads, readReply, emptyDesign}
+use Rattle.image.specs.Meaning.Reading.{ReadsImage, readReply, emptyDesign}
 use Rattle.image.proofs.Accepted.{image-encodes, image-accepted, spelled, clean}
 use Rattle.writer.specs.declared.Written.{Written}
 use Rattle.writer.specs.declared.Written.the-variants.{Bytes, Refused}
@@ -41,11 +41,11 @@ front-bytes n l h k = go (decLt k n)
     go (no q) = rw (past (omega (arith, length-take n l))) (lit< tt)
 
 -- an image that is read encodes the design that is returned
-pub read-encodes : (b : List ℕ) (d : Design) → Reads b (record { answer = Answer·variants.Accepted; design = d }) → Encodes d b
+pub read-encodes : (b : List ℕ) (d : Design) → ReadsImage b (record { answer = Answer·variants.Accepted; design = d }) → Encodes d b
 read-encodes b d r = rw (r .keeps .1) (image-encodes b (r .keeps .0))
 
 -- "Reading an accepted image and writing it again yields those bytes"
-pub read-write : (b : List ℕ) (d : Design) → Reads b (record { answer = Answer·variants.Accepted; design = d }) → AreBytes b
+pub read-write : (b : List ℕ) (d : Design) → ReadsImage b (record { answer = Answer·variants.Accepted; design = d }) → AreBytes b
     → (n : ℕ) (w : Written) (l : List ℕ) → Writes d n w l → AreBytes l → length b ≤ n → (w ≡ Bytes (length b)) × (take (length b) l ≡ b)
 read-write b d r p n w l h q room = go w (h .keeps)
   where
@@ -65,7 +65,7 @@ read-write b d r p n w l h q room = go w (h .keeps)
     go (Refused k) (m, z) = absurd (free k (m .applies))
 
 -- "writing an accepted design and reading it yields that design"
-pub write-read : (d : Design) (n k : ℕ) (l : List ℕ) → Writes d n (Bytes k) l → (r : Reading) → Reads (take k l) r
+pub write-read : (d : Design) (n k : ℕ) (l : List ℕ) → Writes d n (Bytes k) l → (r : Reading) → ReadsImage (take k l) r
     → (r .answer ≡ Answer·variants.Accepted) × SameDesign d (r .design)
 write-read d n k l h r w = go (r .answer) (r .design) (w .keeps)
   where

@@ -1,5 +1,5 @@
 -- `read`: the header's number, the lowest of the others, or the design.
-use Rattle.image.proofs.Refusals.{fits}
+use Rattle.image.proofs.Refusals.{within-limits}
 use Rattle.image.proofs.Promises.{turned-away, turned-head}
 use borrow.Author.Needs.{needs}
 use Rattle.image.proofs.read.Statement.{statement}
@@ -15,7 +15,7 @@ returns : tie.Need-returns
 returns c = turned-head _ _ (c .refusal .result) (c .before .if1 .taken) (c .before .before .header-fault .ensures) (c .refusal .ensures .0) (c .refusal .ensures .1)
 
 decode-requires : tie.Need-decode-requires
-decode-requires c κs = fits (c .before .header-fault .ensures .none (c .if1 .left))
+decode-requires c κs = within-limits (c .before .header-fault .ensures .none (c .if1 .left))
 
 fault-of-requires : tie.Need-fault-of-requires
 fault-of-requires c κs = search needs

@@ -2,7 +2,7 @@
 --   emptyDesign      the design of `10 00 00 00`
 --   lengthReply, readReply   what each answer says: the number of a refusal, or the values
 --   Measures b r     r answers how many bytes the image at the front of b takes
---   Reads b r        r answers which design the image b spells
+--   ReadsImage b r   r answers which design the image b spells
 use Prim.Native.Nat.{ℕ}
 use mathlib.Core.Path.{_≡_}
 use mathlib.Core.List.{List}
@@ -43,5 +43,5 @@ readReply (Answer·variants.Refused n) d = refusal n
 pub record Measures (b : List ℕ) (r : Length) : Type 0 where
   pub keeps : Keeps (HeaderFault b) (λ n. n ≡ bytesIn b) (Unit {0}) (lengthReply r)
 
-pub record Reads (b : List ℕ) (r : Reading) : Type 0 where
+pub record ReadsImage (b : List ℕ) (r : Reading) : Type 0 where
   pub keeps : Keeps (ImageFault b) (λ d. d ≡ decoded b) (r .design ≡ emptyDesign) (readReply (r .answer) (r .design))

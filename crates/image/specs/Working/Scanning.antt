@@ -1,5 +1,5 @@
 -- Scanning an image.
---   Fits b            the sizes of the header are within the format's limits
+--   WithinLimits b    the sizes of the header are within the format's limits
 --   UnreadAbove b m   the second net of some cell that does not read it is above m
 --   UnreadBelow b m n each such net of the first n cells is at most m
 --   SpellsCell b i r  r holds the fields of cell i
@@ -10,7 +10,7 @@ use Rattle.netlist.specs.Meaning.Limits.{mostInputs, mostLatches, mostOutputs, 
 use Rattle.image.specs.declared.fields.CellFields.{CellFields}
 use Rattle.image.specs.Meaning.Format.{inputsIn, latchesIn, outputsIn, countIn, kindIn, firstIn, secondIn}
 
-pub record Fits (b : List ℕ) : Type 0 where
+pub record WithinLimits (b : List ℕ) : Type 0 where
   pub few-inputs : inputsIn b ≤ mostInputs
   pub few-latches : latchesIn b ≤ mostLatches
   pub few-outputs : outputsIn b ≤ mostOutputs

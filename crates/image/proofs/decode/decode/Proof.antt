@@ -1,6 +1,7 @@
 -- `decode`: the design that is made of the entries in their places.
 use native.Mathlib.Omega.{arith}
 use Rattle.memory.proofs.Filling.{all-same}
+use Rattle.netlist.specs.Meaning.Limits.{mostLatches, mostOutputs}
 use Rattle.image.proofs.Decoding.{made}
 use borrow.Author.Needs.{needs}
 use Rattle.image.proofs.decode.decode.Statement.{statement}
@@ -28,7 +29,7 @@ slice-aggregate-take-nets : tie.Need-slice-aggregate-take-nets
 slice-aggregate-take-nets c = search needs
 
 take-nets-requires : tie.Need-take-nets-requires
-take-nets-requires c κs = (omega arith, omega arith, λ k h. all-same 0 7 k)
+take-nets-requires c κs = (omega arith, omega arith, λ k h. all-same 0 mostLatches k)
 
 cast-take-nets-2 : tie.Need-cast-take-nets-2
 cast-take-nets-2 c = search needs
@@ -40,7 +41,7 @@ slice-aggregate-take-nets-2 : tie.Need-slice-aggregate-take-nets-2
 slice-aggregate-take-nets-2 c = search needs
 
 take-nets-requires-2 : tie.Need-take-nets-requires-2
-take-nets-requires-2 c κs = (omega arith, omega arith, λ k h. all-same 0 8 k)
+take-nets-requires-2 c κs = (omega arith, omega arith, λ k h. all-same 0 mostOutputs k)
 
 inputs-requires : tie.Need-inputs-requires
 inputs-requires c κs = search needs
