@@ -4,7 +4,7 @@ ghost use Prim.Native.Nat.{_^_, _<_, _≤_};
 ghost use Rattle.image.specs.Meaning.Format.{bitAt, fieldAt};
 
 // The number that `width` bits from bit `at` on spell, by way of the reader. Whoever calls this has plain parameters.
-pub fn field(image: &[u8], at: usize, width: usize) -> u16
+pub(crate) fn field(image: &[u8], at: usize, width: usize) -> u16
     requires { ⌜ (at < 65536) × (width ≤ 16) ⌝ }
     ensures { λ r. ⌜ (r ≡ fieldAt (now (image .entry)) at width) × (r < 2 ^ width) ⌝ }
 {
@@ -19,7 +19,7 @@ pub struct BitReader<'a> {
 
 impl<'a> BitReader<'a> {
     // The number that the next `width` bits spell.
-    pub fn take(self, width: usize) -> u16
+    pub(crate) fn take(self, width: usize) -> u16
         requires { ⌜ (self .at < 65536) × (width ≤ 16) ⌝ }
         ensures { λ r. ⌜ (r ≡ fieldAt (now (self .entry .image)) (self .entry .at) width) × (r < 2 ^ width) ⌝ }
     {
@@ -27,7 +27,7 @@ impl<'a> BitReader<'a> {
     }
 }
 
-pub fn open<'a>(image: &'a [u8], at: usize) -> BitReader<'a>
+pub(crate) fn open<'a>(image: &'a [u8], at: usize) -> BitReader<'a>
     ensures { λ r. ⌜ (r .image ≡ image .entry) × (r .at ≡ at) ⌝ }
 {
     BitReader { image, at }

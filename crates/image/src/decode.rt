@@ -15,7 +15,7 @@ use netlist::Design;
 use netlist::Gate;
 use netlist::Image;
 
-pub fn decode(image: &[u8]) -> Design
+pub(crate) fn decode(image: &[u8]) -> Design
     requires { ⌜ WithinLimits (now image) ⌝ }
     ensures { λ r. ⌜ r ≡ decoded (now (image .entry)) ⌝ }
 {
@@ -38,7 +38,7 @@ pub fn decode(image: &[u8]) -> Design
     }
 }
 
-pub fn empty() -> Design
+pub(crate) fn empty() -> Design
     ensures { λ r. ⌜ r ≡ emptyDesign ⌝ }
 {
     Design {

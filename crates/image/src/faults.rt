@@ -11,7 +11,7 @@ use crate::fields;
 use netlist::Image;
 
 // The lowest number up to 4 that applies, or 0.
-pub fn header_fault(image: &[u8]) -> u8
+pub(crate) fn header_fault(image: &[u8]) -> u8
     ensures { λ r. ⌜ LowestOrNone (HeaderFault (now (image .entry))) r ⌝ }
 {
     if image.len() < 4 {
@@ -49,7 +49,7 @@ fn over_limit(image: &[u8]) -> bool
 
 // The lowest number that applies to an image whose header is sound, or 0. `found` is what its design was found to have: that is 5 for
 // a net that is read, and 9. Nets that no cell reads, the pad and the length are left to look at.
-pub fn field_fault(image: &[u8], found: u8) -> u8
+pub(crate) fn field_fault(image: &[u8], found: u8) -> u8
     requires { ⌜ (Free (HeaderFault (now image))) × (LowestOrNone (DesignFault (decoded (now image))) found) ⌝ }
     ensures { λ r. ⌜ LowestOrNone (ImageFault (now (image .entry))) r ⌝ }
 {

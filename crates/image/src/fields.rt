@@ -7,45 +7,45 @@ ghost use Rattle.image.specs.Working.Scanning.{SpellsCell};
 use crate::bits::field;
 use netlist::Image;
 
-pub fn version(image: &[u8]) -> u16
+pub(crate) fn version(image: &[u8]) -> u16
     ensures { λ r. ⌜ r ≡ versionIn (now (image .entry)) ⌝ }
 {
     field(image, 0, Image::SIZE_BITS)
 }
 
-pub fn inputs(image: &[u8]) -> u16
+pub(crate) fn inputs(image: &[u8]) -> u16
     ensures { λ r. ⌜ (r ≡ inputsIn (now (image .entry))) × (r < 2 ^ sizeBits) ⌝ }
 {
     field(image, Image::INPUTS_AT, Image::SIZE_BITS)
 }
 
-pub fn latches(image: &[u8]) -> u16
+pub(crate) fn latches(image: &[u8]) -> u16
     ensures { λ r. ⌜ (r ≡ latchesIn (now (image .entry))) × (r < 2 ^ sizeBits) ⌝ }
 {
     field(image, Image::LATCHES_AT, Image::SIZE_BITS)
 }
 
-pub fn outputs(image: &[u8]) -> u16
+pub(crate) fn outputs(image: &[u8]) -> u16
     ensures { λ r. ⌜ (r ≡ outputsIn (now (image .entry))) × (r < 2 ^ sizeBits) ⌝ }
 {
     field(image, Image::OUTPUTS_AT, Image::SIZE_BITS)
 }
 
-pub fn count(image: &[u8]) -> u16
+pub(crate) fn count(image: &[u8]) -> u16
     ensures { λ r. ⌜ (r ≡ countIn (now (image .entry))) × (r < 2 ^ countBits) ⌝ }
 {
     field(image, Image::COUNT_AT, Image::COUNT_BITS)
 }
 
 // How many nets the header gives.
-pub fn nets(image: &[u8]) -> u16
+pub(crate) fn nets(image: &[u8]) -> u16
     ensures { λ r. ⌜ r ≡ netsIn (now (image .entry)) ⌝ }
 {
     2 + inputs(image) + latches(image) + count(image)
 }
 
 // How many bits the fields take.
-pub fn bits(image: &[u8]) -> usize
+pub(crate) fn bits(image: &[u8]) -> usize
     ensures { λ r. ⌜ (r ≡ bitsIn (now (image .entry))) × (r < 16384) ⌝ }
 {
     let tails = latches(image) as usize + outputs(image) as usize;
@@ -53,7 +53,7 @@ pub fn bits(image: &[u8]) -> usize
 }
 
 // How many bytes the image takes, the pad with it.
-pub fn bytes(image: &[u8]) -> usize
+pub(crate) fn bytes(image: &[u8]) -> usize
     ensures { λ r. ⌜ (r ≡ bytesIn (now (image .entry))) × (r ≤ 2048) ⌝ }
 {
     (bits(image) + 7) / 8
@@ -66,7 +66,7 @@ pub struct CellFields {
     pub second: u16,
 }
 
-pub fn cell(image: &[u8], i: usize) -> CellFields
+pub(crate) fn cell(image: &[u8], i: usize) -> CellFields
     requires { ⌜ i < 2 ^ countBits ⌝ }
     ensures { λ r. ⌜ SpellsCell (now (image .entry)) i r ⌝ }
 {
@@ -83,7 +83,7 @@ pub fn cell(image: &[u8], i: usize) -> CellFields
 }
 
 // Net t behind the cells.
-pub fn tail(image: &[u8], t: usize) -> u16
+pub(crate) fn tail(image: &[u8], t: usize) -> u16
     requires { ⌜ t < 2 ^ netBits ⌝ }
     ensures { λ r. ⌜ r ≡ tailIn (now (image .entry)) t ⌝ }
 {

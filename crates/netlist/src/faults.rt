@@ -9,7 +9,7 @@ ghost use Rattle.netlist.specs.Working.Placing.{Within, NetsBelow};
 use crate::Design;
 use crate::Image;
 
-pub fn over_limit(d: Design) -> bool
+pub(crate) fn over_limit(d: Design) -> bool
     ensures { λ r. ⌜ Tells r (DesignFault d 3) ⌝ }
 {
     if d.inputs as usize > Image::MOST_INPUTS {
@@ -68,7 +68,7 @@ fn listed_net_over(list: &[u16], n: usize, nets: usize) -> bool
     false
 }
 
-pub fn net_over(d: Design) -> bool
+pub(crate) fn net_over(d: Design) -> bool
     requires { ⌜ Within d ⌝ }
     ensures { λ r. ⌜ Tells r (DesignFault d 5) ⌝ }
 {

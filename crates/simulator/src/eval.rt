@@ -22,7 +22,7 @@ pub struct Stepped {
 }
 
 // One clock of a design with an order of its cells.
-pub fn step(d: Design, cells: [u16; Image::MOST_CELLS], s: usize, v: usize) -> Stepped
+pub(crate) fn step(d: Design, cells: [u16; Image::MOST_CELLS], s: usize, v: usize) -> Stepped
     requires { ⌜ Evaluable d cells ⌝ }
     ensures { λ r. ⌜ (r .next ≡ nextState d s v) × (r .out ≡ outputs d s v) ⌝ }
 {
@@ -35,7 +35,7 @@ pub fn step(d: Design, cells: [u16; Image::MOST_CELLS], s: usize, v: usize) -> S
 }
 
 // How many numbers n bits have.
-pub fn power(n: u8) -> usize
+pub(crate) fn power(n: u8) -> usize
     requires { ⌜ n ≤ 8 ⌝ }
     ensures { λ r. ⌜ (r ≡ 2 ^ n) × (r ≤ 256) ⌝ }
 {

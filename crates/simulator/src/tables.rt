@@ -17,7 +17,7 @@ pub struct Room {
 }
 
 // The lowest number that applies to tabulating a design; `number` is the lowest that applies to the design itself.
-pub fn table_number(d: Design, number: u8, room: Room) -> u8
+pub(crate) fn table_number(d: Design, number: u8, room: Room) -> u8
     requires { ⌜ LowestOrNone (DesignFault d) number ⌝ }
     ensures { λ r. ⌜ LowestOrNone (TableFault d (room .next) (room .out)) r ⌝ }
 {
@@ -35,7 +35,7 @@ pub fn table_number(d: Design, number: u8, room: Room) -> u8
 }
 
 // The lowest number that applies to tabulating two designs.
-pub fn both_number(
+pub(crate) fn both_number(
     old: Design,
     new: Design,
     old_number: u8,
@@ -66,7 +66,7 @@ fn interface_number(old: Design, new: Design) -> u8
 }
 
 // Every clock of a design, in cleared slices.
-pub fn fill(d: Design, cells: [u16; Image::MOST_CELLS], next: &mut [u8], out: &mut [u8])
+pub(crate) fn fill(d: Design, cells: [u16; Image::MOST_CELLS], next: &mut [u8], out: &mut [u8])
     requires { ⌜ Fillable d cells (now next) (now out) ⌝ }
     ensures { λ _. ⌜ FilledTables d (length (now (next .entry))) (length (now (out .entry))) (sizeOf d) (now (next .exit)) (now (out .exit)) ⌝ }
 {

@@ -13,7 +13,7 @@ use netlist::Design;
 use netlist::Image;
 
 // How many bytes the image of a design takes.
-pub fn bytes(d: Design) -> usize
+pub(crate) fn bytes(d: Design) -> usize
     requires { ⌜ Sound d ⌝ }
     ensures { λ r. ⌜ r ≡ bytesOf d ⌝ }
 {
@@ -22,7 +22,7 @@ pub fn bytes(d: Design) -> usize
 }
 
 // Writes the image of a design into a cleared slice.
-pub fn put(d: Design, bytes: usize, image: &mut [u8])
+pub(crate) fn put(d: Design, bytes: usize, image: &mut [u8])
     requires { ⌜ (Sound d) × (bytes ≡ bytesOf d) × (bytes ≤ length (now image)) × (Zero (now image)) ⌝ }
     ensures { λ _. ⌜ (length (now (image .exit)) ≡ length (now (image .entry))) × (HoldsImage d (now (image .exit)) bytes) ⌝ }
 {

@@ -18,7 +18,7 @@ pub struct Words {
     pub tail: [u16; Image::MOST_LATCHES + Image::MOST_OUTPUTS],
 }
 
-pub fn words_of(d: Design) -> Words
+pub(crate) fn words_of(d: Design) -> Words
     requires { ⌜ Sound d ⌝ }
     ensures { λ r. ⌜ Packs d (r .header) (r .cells) (r .tail) ⌝ }
 {
@@ -92,7 +92,7 @@ fn tail_nets(d: Design) -> [u16; Image::MOST_LATCHES + Image::MOST_OUTPUTS]
     nets
 }
 
-pub fn wide(n: u16) -> u32
+pub(crate) fn wide(n: u16) -> u32
     ensures { λ r. ⌜ r ≡ n ⌝ }
 {
     n as u32
