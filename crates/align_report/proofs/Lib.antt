@@ -1,1 +1,4 @@
-pub mod Fitting
+pub mod Comparing
+pub mod Counting
+pub mod Designs
+pub mod Images

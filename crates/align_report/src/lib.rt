@@ -4,8 +4,16 @@ mod numbers_of;
 
 ghost use Prim.Native.Nat.{_+_, _*_, _≤_};
 ghost use lib.ListN.{length};
-ghost use Rattle.io.specs.Counts.{Counts};
-ghost use Rattle.align_report.specs.Working.Fitting.{Fits};
+ghost use mathlib.Core.Path.{_≡_};
+ghost use Prim.Native.Nat.{_^_};
+ghost use Rattle.netlist.specs.Meaning.Faults.{Accepted};
+ghost use Rattle.machine.specs.Meaning.Tables.{pairs};
+ghost use Rattle.seek.specs.Meaning.Lent.{lent};
+ghost use Rattle.engine.specs.Meaning.Maps.{roomOf};
+ghost use Rattle.compare.specs.Meaning.Designs.{sizesOf};
+ghost use Rattle.compare.specs.Meaning.Comparing.{tablesLent};
+ghost use Rattle.align_report.specs.Meaning.Report.{Reports};
+ghost use Rattle.align_report.specs.Working.Tabled.{Tabled, CountsPairs, ComparesIn, NotSame, ReportsDesigns};
 use engine::MappedAlignable;
 use engine::MappedAlike;
 use image::Answer;
@@ -31,7 +39,8 @@ pub fn write_report(
     text: &mut [u8],
 ) -> usize
     requires { ⌜ 400 + 12 * length (now list) ≤ length (now text) ⌝ }
-    ensures { λ r. ⌜ Counts r (now (text .exit)) ⌝ }
+    requires { ⌜ 16384 ≤ length (now marks) ⌝ }
+    ensures { λ r. ⌜ Reports (now (input .entry)) (tablesLent (length (now («old_next» .entry))) (length (now («old_out» .entry))) (length (now («new_next» .entry))) (length (now («new_out» .entry)))) (lent (length (now (depth .entry))) (length (now (reach .entry))) (length (now (list .entry)))) (now (text .exit)) r ⌝ }
 {
     let measured = image::length_of(input);
     let Length::Bytes(n) = measured else {
@@ -79,7 +88,8 @@ fn write_comparison(
     text: &mut [u8],
 ) -> usize
     requires { ⌜ 400 + 12 * length (now list) ≤ length (now text) ⌝ }
-    ensures { λ r. ⌜ Counts r (now (text .exit)) ⌝ }
+    requires { ⌜ 16384 ≤ length (now marks) ⌝ }
+    ensures { λ r. ⌜ ReportsDesigns old new (tablesLent (length (now («old_next» .entry))) (length (now («old_out» .entry))) (length (now («new_next» .entry))) (length (now («new_out» .entry)))) (lent (length (now (depth .entry))) (length (now (reach .entry))) (length (now (list .entry)))) (now (text .exit)) r ⌝ }
 {
     let verdict = compare::compare(
         old,
@@ -141,8 +151,10 @@ fn write_apart(
     text: &mut [u8],
 ) -> usize
     requires { ⌜ 400 + 12 * length (now list) ≤ length (now text) ⌝ }
-    requires { ⌜ Fits (length (now list)) verdict ⌝ }
-    ensures { λ r. ⌜ Counts r (now (text .exit)) ⌝ }
+    requires { ⌜ ComparesIn old new (now «old_next») (now «old_out») (now «new_next») (now «new_out») (now depth) (now reach) (now list) verdict ⌝ }
+    requires { ⌜ NotSame verdict ⌝ }
+    requires { ⌜ 16384 ≤ length (now marks) ⌝ }
+    ensures { λ r. ⌜ ReportsDesigns old new (tablesLent (length (now («old_next» .entry))) (length (now («old_out» .entry))) (length (now («new_next» .entry))) (length (now («new_out» .entry)))) (lent (length (now (depth .entry))) (length (now (reach .entry))) (length (now (list .entry)))) (now (text .exit)) r ⌝ }
 {
     let Verdict::Apart(pair, steps) = verdict else {
         return report::put_refusal(Side::Both, numbers_of::verdict(verdict), text);
@@ -193,7 +205,11 @@ fn count_pairs(
     depth: &mut [u16],
     reach: &mut [u16],
     marks: &mut [u8],
-) -> Counted {
+) -> Counted
+    requires { ⌜ Tabled old new (now «old_next») (now «old_out») (now «new_next») (now «new_out») ⌝ }
+    requires { ⌜ pairs (sizesOf old new) ≤ roomOf (lent (length (now depth)) (length (now reach)) (length (now marks))) ⌝ }
+    ensures { λ r. ⌜ CountsPairs old new r ⌝ }
+{
     let sizes = sizes_of(old, new);
     let mapped = engine::map_alike(
         old_next,
@@ -236,29 +252,22 @@ fn count_pairs(
     })
 }
 
-// How many states each design has, and how many vectors, of which an accepted design has at most 64.
+// How many states each design has, and how many vectors.
 fn sizes_of(old: Design, new: Design) -> Sizes
-    ensures { λ r. ⌜ (r .old ≤ 128) × (r .new ≤ 128) × (r .vectors ≤ 64) ⌝ }
+    requires { ⌜ Accepted old × Accepted new ⌝ }
+    ensures { λ r. ⌜ r ≡ sizesOf old new ⌝ }
 {
     Sizes {
         old: power(old.latches),
         new: power(new.latches),
-        vectors: memory::shorter(power(old.inputs), 64),
+        vectors: power(old.inputs),
     }
 }
 
-// How many numbers n bits have, 128 of more than 7 bits, which no accepted design has.
+// How many numbers n bits have.
 fn power(n: u8) -> usize
-    ensures { λ r. ⌜ r ≤ 128 ⌝ }
+    requires { ⌜ n ≤ 7 ⌝ }
+    ensures { λ r. ⌜ r ≡ 2 ^ n ⌝ }
 {
-    match n {
-        0 => 1,
-        1 => 2,
-        2 => 4,
-        3 => 8,
-        4 => 16,
-        5 => 32,
-        6 => 64,
-        _ => 128,
-    }
+    1usize << n
 }

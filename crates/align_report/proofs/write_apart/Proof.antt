@@ -1,5 +1,7 @@
--- `write_apart`: the trace fits, and so does the text.
+-- `write_apart`: the trace fits, and so does the text; a refusal is the comparison's own.
 use native.Mathlib.Omega.{arith}
+use Rattle.align_report.proofs.Comparing.{tabled, enough, apart-small}
+use Rattle.align_report.proofs.Designs.{prints-refused, prints-apart}
 use borrow.Author.Needs.{needs}
 use Rattle.align_report.proofs.write_apart.Statement.{statement}
 use Rattle.align_report.proofs.write_apart.Tie as tie
@@ -17,10 +19,12 @@ same-length : tie.Need-same-length
 same-length c = search needs
 
 returns : tie.Need-returns
-returns c = search needs
+returns c = prints-refused _ (c .before .before .before .before .before .before .before .before .before .before .before .before .before .before .before .pre .1 .0) (c .before .before .before .before .before .before .before .before .before .before .before .before .before .before .before .pre .1 .1 .0) (c .before .before .before .before .before .match .keys2) (c .before .before .before .before .verdict2 .ensures) (c .before .before .put-refusal .ensures)
 
 count-pairs-requires : tie.Need-count-pairs-requires
-count-pairs-requires c κs = search needs
+count-pairs-requires c κs =
+    let w = rw (c .before .before .before .before .verdict .given .1) at (c .before .before .before .before .before .before .before .before .before .before .before .before .before .before .before .pre .1 .0) in
+    (tabled (w .keeps .0) (w .keeps .1 .old) (w .keeps .1 .new), enough (w .keeps .0) (c .before .before .before .before .before .before .before .before .before .before .before .before .before .before .before .pre .1 .1 .1))
 
 enum-known-counted : tie.Need-enum-known-counted
 enum-known-counted c = search needs
@@ -47,15 +51,19 @@ same-length-5 : tie.Need-same-length-5
 same-length-5 c = search needs
 
 returns-2 : tie.Need-returns-2
-returns-2 c = search needs
+returns-2 c = absurd (rw (c .before .before .before .before .before .enum-told .given .1) at (c .before .before .before .before .before .before .before .before .before .before .before .before .before .count-pairs .ensures))
 
 sizes-of-requires : tie.Need-sizes-of-requires
-sizes-of-requires c κs = search needs
+sizes-of-requires c κs =
+    let w = rw (c .before .before .before .before .before .before .before .before .before .before .before .before .before .before .verdict .given .1) at (c .before .before .before .before .before .before .before .before .before .before .before .before .before .before .before .before .before .before .before .before .before .before .before .before .before .pre .1 .0) in
+    let t = tabled (w .keeps .0) (w .keeps .1 .old) (w .keeps .1 .new) in
+    (t .accepted-old, t .accepted-new)
 
 put-apart-requires : tie.Need-put-apart-requires
 put-apart-requires c κs =
-    let f = rw (c .before .before .before .before .before .before .before .before .before .before .before .before .before .before .before .before .verdict .given .1) at (c .before .before .before .before .before .before .before .before .before .before .before .before .before .before .before .before .before .before .before .before .before .before .before .before .before .before .before .pre .1) in
-    (record { few-vectors = c .before .sizes-of .ensures .2; small-old = f .1; small-new = f .2 }, (f .0, omega (arith, f .0, c .before .before .before .before .before .before .before .before .before .before .before .before .before .before .before .before .before .before .before .before .before .before .before .before .before .before .before .pre .0)))
+    let w = rw (c .before .before .before .before .before .before .before .before .before .before .before .before .before .before .before .before .verdict .given .1) at (c .before .before .before .before .before .before .before .before .before .before .before .before .before .before .before .before .before .before .before .before .before .before .before .before .before .before .before .pre .1 .0) in
+    let t = tabled (w .keeps .0) (w .keeps .1 .old) (w .keeps .1 .new) in
+    (apart-small w (c .before .sizes-of .ensures), (w .keeps .1 .decided .fits, omega (arith, w .keeps .1 .decided .fits, c .before .before .before .before .before .before .before .before .before .before .before .before .before .before .before .before .before .before .before .before .before .before .before .before .before .before .before .pre .0)))
 
 same-length-6 : tie.Need-same-length-6
 same-length-6 c = search needs
@@ -70,7 +78,10 @@ same-length-9 : tie.Need-same-length-9
 same-length-9 c = search needs
 
 returns-3 : tie.Need-returns-3
-returns-3 c = search needs
+returns-3 c =
+    let w = rw (c .before .before .before .before .before .before .before .before .before .before .before .before .before .before .before .before .before .before .before .verdict .given .1) at (c .before .before .before .before .before .before .before .before .before .before .before .before .before .before .before .before .before .before .before .before .before .before .before .before .before .before .before .before .before .before .pre .1 .0) in
+    let t = tabled (w .keeps .0) (w .keeps .1 .old) (w .keeps .1 .new) in
+    prints-apart w t (c .before .before .before .before .sizes-of .ensures) (rw (c .before .before .before .before .before .before .counted .given .1) at (c .before .before .before .before .before .before .before .before .before .before .before .before .before .before .count-pairs .ensures)) (c .before .before .put-apart .ensures)
 
 pub write-apart-spec : {M : Type 1} → statement M
 write-apart-spec =

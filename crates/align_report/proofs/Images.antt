@@ -1,0 +1,74 @@
+-- The text on two images, from the promises of the calls that read them.
+use Prim.Native.Nat.{ℕ, _-_, _≤_}
+use mathlib.Core.Path.{_≡_, refl, sym, subst}
+use mathlib.Core.List.{List}
+use native.Mathlib.Omega.{arith}
+use lib.ListN.{length, take, drop, length-drop}
+use lib.Seq.{take-all}
+use Rattle.numbers.proofs.Order.{le-of-not-lt}
+use Rattle.memory.specs.Meaning.Refusals.{Free, Lowest}
+use Rattle.netlist.specs.declared.Design.{Design}
+use Rattle.image.specs.declared.Length.{Length}
+use Rattle.image.specs.declared.Answer.{Answer}
+use Rattle.image.specs.declared.Reading.{Reading}
+use Rattle.image.specs.Meaning.Format.{bytesIn, decoded}
+use Rattle.image.specs.Meaning.Faults.{ImageFault, HeaderFault}
+use Rattle.image.specs.Meaning.Reading.{Measures, Reads, lengthReply, readReply, emptyDesign}
+use Rattle.seek.specs.Meaning.Lent.{Lent}
+use Rattle.compare.specs.Meaning.Comparing.{TablesLent}
+use Rattle.report.specs.declared.Side.the-variants.{Old, New}
+use Rattle.report.specs.Meaning.Text.{refusalText, Printed}
+use Rattle.align_report.specs.Meaning.Report.{OldRefused, OldAccepted, Answers, Reports, newBytes}
+use Rattle.align_report.specs.Working.Tabled.{numberOf, ReportsDesigns}
+
+-- what stands behind the old image, as it is lent
+rest : (m : ℕ) (b : List ℕ) → take (length b - m) (drop m b) ≡ drop m b
+rest m b = take-all (length b - m) (drop m b) (omega (arith, length-drop m b))
+
+-- the image at the front of the input ends within it
+pub front-fits : {b : List ℕ} {n : ℕ} → Measures b (Length.Bytes n) → n ≤ length b
+front-fits w = let e = w .keeps .1 in rw e (le-of-not-lt (λ h. w .keeps .0 4 (ImageFault.ends h, omega arith)))
+
+read-rest : (b : List ℕ) (m : ℕ) (g : Reading) → Reads (take (length b - m) (drop m b)) g → Reads (drop m b) g
+read-rest b m g u = subst (λ (l : List ℕ). Reads l g) (rest m b) u
+
+old-read : {b : List ℕ} {m : ℕ} {f : Reading} → Measures b (Length.Bytes m) → Reads (take m b) f → f .answer ≡ Answer.Accepted → OldAccepted b
+old-read {b} {m} {f} w d e =
+    let x = rw e at (d .keeps) in
+    record { header = w .keeps .0; image = subst (λ (j : ℕ). Free (ImageFault (take j b))) (w .keeps .1) (x .0) }
+
+module _ {b : List ℕ} {n : TablesLent} {s : Lent} {text′ : List ℕ} {r : ℕ} where
+  pub old-unmeasured : {m : Length} {k q : ℕ} → Measures b m → m ≡ Length.Refused k → q ≡ numberOf (lengthReply m)
+      → Printed (refusalText Old q) text′ r → Reports b n s text′ r
+  old-unmeasured {k = k} w e i p =
+      let x = rw e at w in
+      let j : _ ≡ k = rw e at i in
+      record { answers = Answers.old-refused k (OldRefused.header (x .keeps .0)) (rw (← j) (p .is)); counts = p .counts }
+
+  pub old-unread : {m k q : ℕ} {f : Reading} → Measures b (Length.Bytes m) → Reads (take m b) f → f .answer ≡ Answer.Refused k → q ≡ numberOf (readReply (f .answer) emptyDesign)
+      → Printed (refusalText Old q) text′ r → Reports b n s text′ r
+  old-unread {m} {k} {q} {f} w d e i p =
+      let x = rw e at (d .keeps) in
+      let y = subst (λ (j : ℕ). Lowest (ImageFault (take j b)) k) (w .keeps .1) (x .0) in
+      let j : q ≡ k = rw e at i in
+      record { answers = Answers.old-refused k (OldRefused.image (w .keeps .0) y) (rw (← j) (p .is)); counts = p .counts }
+
+  pub new-unread : {m k q : ℕ} {f g : Reading} → Measures b (Length.Bytes m) → Reads (take m b) f → f .answer ≡ Answer.Accepted
+      → Reads (take (length b - m) (drop m b)) g → g .answer ≡ Answer.Refused k → q ≡ numberOf (readReply (g .answer) emptyDesign)
+      → Printed (refusalText New q) text′ r → Reports b n s text′ r
+  new-unread {m} {k} {q} {f} {g} w d a u e i p =
+      let x = rw e at (read-rest b m g u .keeps) in
+      let y = subst (λ (j : ℕ). Lowest (ImageFault (drop j b)) k) (w .keeps .1) (x .0) in
+      let j : q ≡ k = rw e at i in
+      record { answers = Answers.new-refused k (old-read w d a) y (rw (← j) (p .is)); counts = p .counts }
+
+  pub both-read : {m : ℕ} {f g : Reading} → Measures b (Length.Bytes m) → Reads (take m b) f → f .answer ≡ Answer.Accepted
+      → Reads (take (length b - m) (drop m b)) g → g .answer ≡ Answer.Accepted → ReportsDesigns (f .design) (g .design) n s text′ r → Reports b n s text′ r
+  both-read {m} {f} {g} w d a u c p =
+      let x = rw a at (d .keeps) in
+      let y = rw c at (read-rest b m g u .keeps) in
+      let e = w .keeps .1 in
+      record {
+        answers = Answers.designs (old-read w d a) (subst (λ (j : ℕ). Free (ImageFault (drop j b))) e (y .0)) (rw (← e, ← x .1, ← y .1) (p .answers));
+        counts = p .counts;
+      }
