@@ -3,8 +3,11 @@ use netlist::Image;
 
 // The most entries of a table, pairs, steps and bytes of text.
 const ENTRIES: usize = 8192;
+
 const PAIRS: usize = 16384;
+
 const STEPS: usize = 32768;
+
 const TEXT: usize = 400 + 12 * STEPS;
 
 fn main() {

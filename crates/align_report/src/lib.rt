@@ -50,7 +50,17 @@ pub fn write_report(
     let old = first.design;
     let new = second.design;
     write_comparison(
-        old, new, old_next, old_out, new_next, new_out, depth, reach, marks, list, text,
+        old,
+        new,
+        old_next,
+        old_out,
+        new_next,
+        new_out,
+        depth,
+        reach,
+        marks,
+        list,
+        text,
     )
 }
 
@@ -72,15 +82,42 @@ fn write_comparison(
     ensures { λ r. ⌜ Counts r (now (text .exit)) ⌝ }
 {
     let verdict = compare::compare(
-        old, new, old_next, old_out, new_next, new_out, depth, reach, list,
+        old,
+        new,
+        old_next,
+        old_out,
+        new_next,
+        new_out,
+        depth,
+        reach,
+        list,
     );
     let Verdict::Same(steps) = verdict else {
         return write_apart(
-            old, new, old_next, old_out, new_next, new_out, depth, reach, marks, verdict, list, text,
+            old,
+            new,
+            old_next,
+            old_out,
+            new_next,
+            new_out,
+            depth,
+            reach,
+            marks,
+            verdict,
+            list,
+            text,
         );
     };
     let counted = count_pairs(
-        old, new, old_next, old_out, new_next, new_out, depth, reach, marks,
+        old,
+        new,
+        old_next,
+        old_out,
+        new_next,
+        new_out,
+        depth,
+        reach,
+        marks,
     );
     let Counted::Facts(facts) = counted else {
         return report::put_refusal(Side::Both, numbers_of::counted(counted), text);
@@ -111,14 +148,31 @@ fn write_apart(
         return report::put_refusal(Side::Both, numbers_of::verdict(verdict), text);
     };
     let counted = count_pairs(
-        old, new, old_next, old_out, new_next, new_out, depth, reach, marks,
+        old,
+        new,
+        old_next,
+        old_out,
+        new_next,
+        new_out,
+        depth,
+        reach,
+        marks,
     );
     let Counted::Facts(facts) = counted else {
         return report::put_refusal(Side::Both, numbers_of::counted(counted), text);
     };
     let sizes = sizes_of(old, new);
     report::put_apart(
-        old_next, old_out, new_next, new_out, sizes, facts, pair, list, steps, text,
+        old_next,
+        old_out,
+        new_next,
+        new_out,
+        sizes,
+        facts,
+        pair,
+        list,
+        steps,
+        text,
     )
 }
 
@@ -142,7 +196,14 @@ fn count_pairs(
 ) -> Counted {
     let sizes = sizes_of(old, new);
     let mapped = engine::map_alike(
-        old_next, old_out, new_next, new_out, sizes, depth, reach, marks,
+        old_next,
+        old_out,
+        new_next,
+        new_out,
+        sizes,
+        depth,
+        reach,
+        marks,
     );
     let MappedAlike::Marked {
         count: alike,
@@ -152,7 +213,14 @@ fn count_pairs(
         return Counted::Refused(numbers_of::alike(mapped));
     };
     let mapped = engine::map_alignable(
-        old_next, old_out, new_next, new_out, sizes, depth, reach, marks,
+        old_next,
+        old_out,
+        new_next,
+        new_out,
+        sizes,
+        depth,
+        reach,
+        marks,
     );
     let MappedAlignable::Marked(alignable) = mapped else {
         return Counted::Refused(numbers_of::alignable(mapped));
@@ -169,8 +237,7 @@ fn count_pairs(
 }
 
 // How many states each design has, and how many vectors the old one.
-fn sizes_of(old: Design, new: Design) -> Sizes
-{
+fn sizes_of(old: Design, new: Design) -> Sizes {
     Sizes {
         old: power(old.latches),
         new: power(new.latches),
