@@ -94,3 +94,24 @@ pub fn one_byte_more(bytes: [u8; Image::MOST_BYTES]) -> [u8; Image::MOST_BYTES +
     }
     more
 }
+
+// 256 cells that buffer net 0, and nothing else.
+pub fn most_cells() -> [u8; 676] {
+    let mut bytes = [0u8; 676];
+    bytes[0] = 0x10;
+    bytes[2] = 0x80;
+    bytes
+}
+
+// Slices to write into: longer than the largest image, just long enough for it, and one byte short. Each holds sevens.
+pub fn longer() -> [u8; 700] {
+    [7u8; 700]
+}
+
+pub fn whole() -> [u8; Image::MOST_BYTES] {
+    [7u8; Image::MOST_BYTES]
+}
+
+pub fn short() -> [u8; Image::MOST_BYTES - 1] {
+    [7u8; Image::MOST_BYTES - 1]
+}

@@ -9,7 +9,7 @@ use netlist::Gate;
 // Reads an image and writes it again.
 fn image(label: &[u8], bytes: &[u8]) {
     let r = image::read(bytes);
-    let mut room = [7u8; 700];
+    let mut room = designs::longer();
     show::written(label, writer::write(r.design, &mut room));
     if agree(bytes, &room) {
         show::text(b", the same bytes");
@@ -30,7 +30,7 @@ pub fn images() {
 
 // Writes a design and reads it again.
 fn design(label: &[u8], d: Design) {
-    let mut room = [7u8; 700];
+    let mut room = designs::longer();
     show::written(label, writer::write(d, &mut room));
     if comes_back(d, &room) {
         show::text(b", the same design");
@@ -108,13 +108,13 @@ fn rooms() {
     write_into(b"one cell, 8 bytes", d, &mut eight);
     let mut nine = [7u8; 9];
     write_into(b"one cell, 9 bytes", d, &mut nine);
-    let mut short = [7u8; 691];
+    let mut short = designs::short();
     write_into(
         b"every size at its limit, 691 bytes",
         designs::full(),
         &mut short,
     );
-    let mut whole = [7u8; 692];
+    let mut whole = designs::whole();
     write_into(
         b"every size at its limit, 692 bytes",
         designs::full(),
