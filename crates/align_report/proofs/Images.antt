@@ -13,7 +13,7 @@ use Rattle.image.specs.declared.Answer.{Answer}
 use Rattle.image.specs.declared.Reading.{Reading}
 use Rattle.image.specs.Meaning.Format.{bytesIn, decoded}
 use Rattle.image.specs.Meaning.Faults.{ImageFault, HeaderFault}
-use Rattle.image.specs.Meaning.Reading.{Measures, Reads, lengthReply, readReply, emptyDesign}
+use Rattle.image.specs.Meaning.Reading.{Measures, ReadsImage, lengthReply, readReply, emptyDesign}
 use Rattle.seek.specs.Meaning.Lent.{Lent}
 use Rattle.compare.specs.Meaning.Comparing.{TablesLent}
 use Rattle.report.specs.declared.Side.the-variants.{Old, New}
@@ -29,10 +29,10 @@ rest m b = take-all (length b - m) (drop m b) (omega (arith, length-drop m b))
 pub front-fits : {b : List ℕ} {n : ℕ} → Measures b (Length.Bytes n) → n ≤ length b
 front-fits w = let e = w .keeps .1 in rw e (le-of-not-lt (λ h. w .keeps .0 4 (ImageFault.ends h, omega arith)))
 
-read-rest : (b : List ℕ) (m : ℕ) (g : Reading) → Reads (take (length b - m) (drop m b)) g → Reads (drop m b) g
-read-rest b m g u = subst (λ (l : List ℕ). Reads l g) (rest m b) u
+read-rest : (b : List ℕ) (m : ℕ) (g : Reading) → ReadsImage (take (length b - m) (drop m b)) g → ReadsImage (drop m b) g
+read-rest b m g u = subst (λ (l : List ℕ). ReadsImage l g) (rest m b) u
 
-old-read : {b : List ℕ} {m : ℕ} {f : Reading} → Measures b (Length.Bytes m) → Reads (take m b) f → f .answer ≡ Answer.Accepted → OldAccepted b
+old-read : {b : List ℕ} {m : ℕ} {f : Reading} → Measures b (Length.Bytes m) → ReadsImage (take m b) f → f .answer ≡ Answer.Accepted → OldAccepted b
 old-read {b} {m} {f} w d e =
     let x = rw e at (d .keeps) in
     record { header = w .keeps .0; image = subst (λ (j : ℕ). Free (ImageFault (take j b))) (w .keeps .1) (x .0) }
@@ -45,7 +45,7 @@ module _ {b : List ℕ} {n : TablesLent} {s : Lent} {text′ : List ℕ} {r : �
       let j : _ ≡ k = rw e at i in
       record { answers = Answers.old-refused k (OldRefused.header (x .keeps .0)) (rw (← j) (p .is)); counts = p .counts }
 
-  pub old-unread : {m k q : ℕ} {f : Reading} → Measures b (Length.Bytes m) → Reads (take m b) f → f .answer ≡ Answer.Refused k → q ≡ numberOf (readReply (f .answer) emptyDesign)
+  pub old-unread : {m k q : ℕ} {f : Reading} → Measures b (Length.Bytes m) → ReadsImage (take m b) f → f .answer ≡ Answer.Refused k → q ≡ numberOf (readReply (f .answer) emptyDesign)
       → Printed (refusalText Old q) text′ r → Reports b n s text′ r
   old-unread {m} {k} {q} {f} w d e i p =
       let x = rw e at (d .keeps) in
@@ -53,8 +53,8 @@ module _ {b : List ℕ} {n : TablesLent} {s : Lent} {text′ : List ℕ} {r : �
       let j : q ≡ k = rw e at i in
       record { answers = Answers.old-refused k (OldRefused.image (w .keeps .0) y) (rw (← j) (p .is)); counts = p .counts }
 
-  pub new-unread : {m k q : ℕ} {f g : Reading} → Measures b (Length.Bytes m) → Reads (take m b) f → f .answer ≡ Answer.Accepted
-      → Reads (take (length b - m) (drop m b)) g → g .answer ≡ Answer.Refused k → q ≡ numberOf (readReply (g .answer) emptyDesign)
+  pub new-unread : {m k q : ℕ} {f g : Reading} → Measures b (Length.Bytes m) → ReadsImage (take m b) f → f .answer ≡ Answer.Accepted
+      → ReadsImage (take (length b - m) (drop m b)) g → g .answer ≡ Answer.Refused k → q ≡ numberOf (readReply (g .answer) emptyDesign)
       → Printed (refusalText New q) text′ r → Reports b n s text′ r
   new-unread {m} {k} {q} {f} {g} w d a u e i p =
       let x = rw e at (read-rest b m g u .keeps) in
@@ -62,8 +62,8 @@ module _ {b : List ℕ} {n : TablesLent} {s : Lent} {text′ : List ℕ} {r : �
       let j : q ≡ k = rw e at i in
       record { answers = Answers.new-refused k (old-read w d a) y (rw (← j) (p .is)); counts = p .counts }
 
-  pub both-read : {m : ℕ} {f g : Reading} → Measures b (Length.Bytes m) → Reads (take m b) f → f .answer ≡ Answer.Accepted
-      → Reads (take (length b - m) (drop m b)) g → g .answer ≡ Answer.Accepted → ReportsDesigns (f .design) (g .design) n s text′ r → Reports b n s text′ r
+  pub both-read : {m : ℕ} {f g : Reading} → Measures b (Length.Bytes m) → ReadsImage (take m b) f → f .answer ≡ Answer.Accepted
+      → ReadsImage (take (length b - m) (drop m b)) g → g .answer ≡ Answer.Accepted → ReportsDesigns (f .design) (g .design) n s text′ r → Reports b n s text′ r
   both-read {m} {f} {g} w d a u c p =
       let x = rw a at (d .keeps) in
       let y = rw c at (read-rest b m g u .keeps) in

@@ -17,7 +17,7 @@ use Rattle.netlist.specs.Meaning.Nets.{cellBase, gateAt}
 use Rattle.netlist.specs.Meaning.Loops.{Reads, Path}
 use Rattle.image.specs.Meaning.Format.{bitAt, fieldAt, versionIn, inputsIn, latchesIn, outputsIn, countIn, netsIn, bitsIn, bytesIn, kindIn, firstIn, secondIn, tailIn, decoded}
 use Rattle.image.specs.Meaning.Faults.{ImageFault}
-use Rattle.image.specs.Working.Scanning.{Fits}
+use Rattle.image.specs.Working.Scanning.{WithinLimits}
 use Rattle.image.proofs.Refusals.{no-3, no-4, no-6, no-7, no-8, clean-4}
 use Rattle.image.proofs.Spelling.{zero-bits}
 use Rattle.image.proofs.Order.{small}
@@ -77,7 +77,7 @@ module _ (b : List ℕ) (r : T (passes (fieldTests b))) where
   test : (i : ℕ) → T (getD (fieldTests b) i true)
   test i = pass (fieldTests b) i r
 
-  fits : Fits b
+  fits : WithinLimits b
   fits = record {
     few-inputs = leb→le (inputsIn b) mostInputs (test 2);
     few-latches = leb→le (latchesIn b) mostLatches (test 3);
