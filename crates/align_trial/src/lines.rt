@@ -1,0 +1,67 @@
+// A line: where a byte stands in it, and what it says.
+ghost use Prim.Native.Nat.{_≤_};
+ghost use lib.ListN.{length};
+
+// Where the first such byte stands at or behind a place, or else the end.
+pub fn find(line: &[u8], from: usize, byte: u8) -> usize
+    requires { ⌜ from ≤ length (now line) ⌝ }
+    ensures { λ r. ⌜ (from ≤ r) × (r ≤ length (now (line .entry))) ⌝ }
+{
+    let mut i = from;
+    while i < line.len() {
+        if line[i] == byte {
+            return i;
+        }
+        i += 1;
+    }
+    i
+}
+
+// How many bytes of list a line is given, of the most that there are.
+pub fn list_bytes(line: &[u8], most: usize) -> usize
+    ensures { λ r. ⌜ r ≤ most ⌝ }
+{
+    if most < 2 {
+        return most;
+    }
+    if line.len() < 2 {
+        return most;
+    }
+    match line[1] {
+        b'0' => 0,
+        b'1' => 1,
+        b'2' => 2,
+        _ => most,
+    }
+}
+
+// Writes the bytes that stand behind a colon or space each, as far as there is room, and hands back how many.
+pub fn decode(digits: &[u8], input: &mut [u8]) -> usize
+    ensures { λ r. ⌜ r ≤ length (now (input .exit)) ⌝ }
+{
+    let mut n = 0;
+    while n < input.len() && n < digits.len() / 3 {
+        input[n] = byte_at(digits, n);
+        n += 1;
+    }
+    n
+}
+
+// The byte spelled behind the colon or space number n.
+fn byte_at(digits: &[u8], n: usize) -> u8 {
+    if n >= digits.len() / 3 {
+        return 0;
+    }
+    digit(digits[3 * n + 1]) * 16 + digit(digits[3 * n + 2])
+}
+
+// The value of a hexadecimal digit.
+fn digit(c: u8) -> u8
+    ensures { λ r. ⌜ r ≤ 15 ⌝ }
+{
+    match c {
+        b'0'..=b'9' => c - b'0',
+        b'A'..=b'F' => c - b'A' + 10,
+        _ => 0,
+    }
+}
