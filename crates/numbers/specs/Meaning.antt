@@ -1,2 +1,3 @@
+-- What has to be believed of numbers: their bits, and counting.
 pub mod Bits
 pub mod Count

@@ -1,4 +1,5 @@
 -- Demand 3: the verdict is right about designs.
+--   Driven a b p          some list drives the pair p to an alike pair
 --   Right a b l r         the verdict r on a and b, with the list slice l at exit, is right
 --   EnoughTables a b n    table slices of lengths n are long enough
 --   Enough a b s          so are scratch and list slice of lengths s

@@ -4,6 +4,7 @@
 --   alignableReply         the same of `map_alignable`, whose value is the count
 --   roomOf s               the entries of the shortest slice with one entry a pair
 --   Marks P z mark count   the marks say of each pair whether P holds, all beyond them is 0, and count of them are 1
+--   MarksAlike t mark x    the marks and the count of alike pairs are right, and so is the round number
 --   MapsAlike t s e r      `map_alike` of the tables t: slices of lengths s are left as e, and r is the answer
 --   MapsAlignable t s e r  `map_alignable`, likewise
 use mathlib.Core.Path.{_≡_}

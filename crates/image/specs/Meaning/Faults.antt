@@ -1,6 +1,6 @@
 -- What is wrong with an image, by number.
 --   ImageFault b n    number n applies to the image b
---   HeaderFault b n   number n applies, and can be told from the header and the length
+--   HeaderFault b n   number n applies and is at most 4, so that bytes behind the image do not matter
 -- Bits past the end read 0; where that could matter a lower number applies.
 use Prim.Native.Nat.{ℕ, _+_, _*_, _<_, _≤_}
 use mathlib.Core.Path.{_≡_}

@@ -1,10 +1,13 @@
 -- The value of every net of a design, and one clock.
 --   cellBase d, netsOf d      the first cell net, and how many nets there are
 --   gateAt d i                the gate of cell i
+--   gateValue g f             what the gate g makes of the values f
 --   source d s v n            the value of net n, which no cell drives
+--   settle d f                one round: every cell's net takes what its gate makes of the values f
 --   settled d s v r n         the value of net n after r rounds in which every cell takes what it reads
 --   value d s v n             the value of net n in state s under vector v
 --   Satisfies d s v f         the assignment f gives every net what its source or its cell says
+--   nextBit, outputBit        what flip-flop k takes at the clock, and what output k shows before it
 --   nextState, outputs        one clock
 --   statesOf d, vectorsOf d   how many states and vectors there are
 -- `value` computes and is believed; for a design without loops it is the one assignment with `Satisfies` (proofs/Values).

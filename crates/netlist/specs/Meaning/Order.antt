@@ -1,8 +1,8 @@
 -- An order in which the cells can be evaluated one after another. Which of several such orders is chosen is free.
 --   Earlier d l k n    net n is driven by no cell, or by one of the first k of the list l
---   Runs d l n         the first n entries of l are cells, and each reads only nets that are driven earlier
+--   Runs d l n         of the 256 entries of l the first n are cells, and each reads only nets that are driven earlier
 --   Ordered d l        the first G entries of l are all cells, in such an order
---   Plans d n l        the number n that applies to the design d, 0 for none, and an order l of its cells
+--   Plans d n l        n is the lowest number that applies to the design d, 0 for none, and l an order of its cells
 use Prim.Native.Nat.{ℕ, _+_, _<_}
 use mathlib.Core.Path.{_≡_}
 use mathlib.Core.Logic.{_⊎_}

@@ -1,6 +1,6 @@
 -- The slices that a call over two tables is lent besides them: both scratch slices, and the one that it writes its answer to.
---   Lent              their lengths at entry
---   Left              what they hold at exit
+--   Lent              their lengths at entry: depth and reach are the two scratch slices, written is the mark or list slice; lent makes it
+--   Left              what they hold at exit; left makes it
 --   Tidy s e          scratch is all zero, and every slice is as long as it was
 --   Listed S list n   the first n bytes of the list slice have S, and all beyond them is 0
 use mathlib.Core.Path.{_≡_}
