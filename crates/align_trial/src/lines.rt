@@ -3,7 +3,7 @@ ghost use Prim.Native.Nat.{_≤_};
 ghost use lib.ListN.{length};
 
 // Where the first such byte stands at or behind a place, or else the end.
-pub fn find(line: &[u8], from: usize, byte: u8) -> usize
+pub(crate) fn find(line: &[u8], from: usize, byte: u8) -> usize
     requires { ⌜ from ≤ length (now line) ⌝ }
     ensures { λ r. ⌜ (from ≤ r) × (r ≤ length (now (line .entry))) ⌝ }
 {
@@ -18,7 +18,7 @@ pub fn find(line: &[u8], from: usize, byte: u8) -> usize
 }
 
 // How many bytes of list a line is given, of the most that there are.
-pub fn list_bytes(line: &[u8], most: usize) -> usize
+pub(crate) fn list_bytes(line: &[u8], most: usize) -> usize
     ensures { λ r. ⌜ r ≤ most ⌝ }
 {
     if most < 2 {
@@ -36,7 +36,7 @@ pub fn list_bytes(line: &[u8], most: usize) -> usize
 }
 
 // Writes the bytes that stand behind a colon or space each, as far as there is room, and hands back how many.
-pub fn decode(digits: &[u8], input: &mut [u8]) -> usize
+pub(crate) fn decode(digits: &[u8], input: &mut [u8]) -> usize
     ensures { λ r. ⌜ r ≤ length (now (input .exit)) ⌝ }
 {
     let mut n = 0;
