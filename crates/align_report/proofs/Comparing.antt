@@ -16,27 +16,27 @@ use Rattle.simulator.specs.Meaning.Tables.{TableFault, InterfaceFault, BothFaul
 use Rattle.machine.specs.declared.Pair.{Pair}
 use Rattle.machine.specs.declared.Sizes.{Sizes}
 use Rattle.machine.specs.Meaning.Tables.{pairs}
-use Rattle.seek.specs.Meaning.Lent.{Lent, Left, lent, left, Tidy}
+use Rattle.machine.specs.Meaning.Lent.{Lent, Left, lentOf, leftOf, Tidy}
 use Rattle.engine.specs.Meaning.Maps.{roomOf}
 use Rattle.verdict.specs.declared.Verdict.{Verdict}
 use Rattle.verdict.proofs.Verdict as verdict
 use Rattle.compare.specs.Meaning.Designs.{sizesOf}
-use Rattle.compare.specs.Meaning.Comparing.{TablesLent, TablesLeft, tablesLent, tablesLeft, CompareFault, Compares}
+use Rattle.compare.specs.Meaning.Comparing.{TablesLent, TablesLeft, tablesLentOf, tablesLeftOf, CompareFault, Compares}
 use Rattle.compare.proofs.Agreement.{states-few, vectors-few}
 use Rattle.report.specs.Working.Put.{Small}
 use Rattle.align_report.specs.Working.Tabled.{Tabled, ComparesIn, NotSame, ReportsDesigns}
 
 -- the comparison leaves every slice as long as it was
 pub compares-in : {a b : Design} {k0 k1 k2 k3 k4 k5 k6 : ℕ} {next0 out0 next1 out1 depth reach list : List ℕ} {r : Verdict}
-    → Compares a b (tablesLent k0 k1 k2 k3) (lent k4 k5 k6) (tablesLeft next0 out0 next1 out1) (left depth reach list) r
+    → Compares a b (tablesLentOf k0 k1 k2 k3) (lentOf k4 k5 k6) (tablesLeftOf next0 out0 next1 out1) (leftOf depth reach list) r
     → length next0 ≡ k0 → length out0 ≡ k1 → length next1 ≡ k2 → length out1 ≡ k3
     → ComparesIn a b next0 out0 next1 out1 depth reach list r
 compares-in w e0 e1 e2 e3 = rw (e0, e1, e2, e3, w .tidy .depth .size, w .tidy .reach .size, w .tidy .written) w
 
 pub reports-back : {a b : Design} {m0 m1 m2 m3 k0 k1 k2 k3 k4 k5 k6 : ℕ} {depth reach list text′ : List ℕ} {r : ℕ}
-    → ReportsDesigns a b (tablesLent m0 m1 m2 m3) (lent (length depth) (length reach) (length list)) text′ r
-    → m0 ≡ k0 → m1 ≡ k1 → m2 ≡ k2 → m3 ≡ k3 → Tidy (lent k4 k5 k6) (left depth reach list)
-    → ReportsDesigns a b (tablesLent k0 k1 k2 k3) (lent k4 k5 k6) text′ r
+    → ReportsDesigns a b (tablesLentOf m0 m1 m2 m3) (lentOf (length depth) (length reach) (length list)) text′ r
+    → m0 ≡ k0 → m1 ≡ k1 → m2 ≡ k2 → m3 ≡ k3 → Tidy (lentOf k4 k5 k6) (leftOf depth reach list)
+    → ReportsDesigns a b (tablesLentOf k0 k1 k2 k3) (lentOf k4 k5 k6) text′ r
 reports-back w e0 e1 e2 e3 t = rw (← e0, ← e1, ← e2, ← e3, ← t .depth .size, ← t .reach .size, ← t .written) w
 
 module _ {a b : Design} {n : TablesLent} {s : Lent} (free : Free (CompareFault a b n s)) where
@@ -46,10 +46,10 @@ module _ {a b : Design} {n : TablesLent} {s : Lent} (free : Free (CompareFault a
   free-new : Accepted b
   free-new k f = free k (CompareFault.tabulating (BothFault.new (TableFault.design f)))
 
-  pub enough : {marks : ℕ} → 16384 ≤ marks → pairs (sizesOf a b) ≤ roomOf (lent (s .depth) (s .reach) marks)
+  pub enough : {marks : ℕ} → 16384 ≤ marks → pairs (sizesOf a b) ≤ roomOf (lentOf (s .depth) (s .reach) marks)
   enough m = omega (arith, m, mul-le-mul (states-few free-old) (states-few free-new), le-of-not-lt (λ l. free 12 (CompareFault.scratch l)))
 
-pub tabled : {a b : Design} {s : Lent} {next0 out0 next1 out1 : List ℕ} → Free (CompareFault a b (tablesLent (length next0) (length out0) (length next1) (length out1)) s)
+pub tabled : {a b : Design} {s : Lent} {next0 out0 next1 out1 : List ℕ} → Free (CompareFault a b (tablesLentOf (length next0) (length out0) (length next1) (length out1)) s)
     → HoldsDesign a next0 out0 → HoldsDesign b next1 out1 → Tabled a b next0 out0 next1 out1
 tabled {a} {b} free h0 h1 = record {
   accepted-old = free-old free;

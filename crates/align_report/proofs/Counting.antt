@@ -9,11 +9,11 @@ use Rattle.netlist.specs.declared.Design.{Design}
 use Rattle.machine.specs.declared.Pair.{Pair}
 use Rattle.machine.specs.declared.Sizes.{Sizes}
 use Rattle.machine.specs.Meaning.Machine.{Machine, Alike, Alignable}
-use Rattle.machine.specs.Meaning.Tables.{In, Ok, Flag, Tables, tables, pairs, oldMachine, newMachine}
+use Rattle.machine.specs.Meaning.Tables.{In, Ok, Flag, Tables, bothTables, pairs, oldMachine, newMachine}
 use Rattle.machine.specs.Working.Pairs.{SameSteps}
 use Rattle.machine.proofs.Transfer.{same-back, alike-there, alignable-there}
-use Rattle.seek.specs.Meaning.Faults.{Fault}
-use Rattle.seek.specs.Meaning.Lent.{Lent, Left, lent, Tidy}
+use Rattle.machine.specs.Meaning.Faults.{TablesFault}
+use Rattle.machine.specs.Meaning.Lent.{Lent, Left, lentOf, Tidy}
 use Rattle.engine.specs.declared.MappedAlike.{MappedAlike}
 use Rattle.engine.specs.declared.MappedAlignable.{MappedAlignable}
 use Rattle.engine.specs.Meaning.Maps.{Marks, roomOf, MapsAlike, MapsAlignable}
@@ -23,7 +23,7 @@ use Rattle.align_report.specs.Meaning.Report.{Counts}
 use Rattle.align_report.specs.Working.Tabled.{Tabled}
 
 -- a call that keeps the lengths of its slices leaves as much room
-pub room-kept : {s : Lent} {e : Left} {n : ℕ} → Tidy s e → n ≤ roomOf s → n ≤ roomOf (lent (length (e .depth)) (length (e .reach)) (length (e .written)))
+pub room-kept : {s : Lent} {e : Left} {n : ℕ} → Tidy s e → n ≤ roomOf s → n ≤ roomOf (lentOf (length (e .depth)) (length (e .reach)) (length (e .written)))
 room-kept t h = rw (t .depth .size, t .reach .size, t .written) h
 
 -- marks of a set are marks of any set with the same pairs
@@ -38,36 +38,36 @@ counts-there {mark = mark} to from m = record {
 }
 
 abbrev pub tablesOf : Design → Design → List ℕ → List ℕ → List ℕ → List ℕ → Tables
-tablesOf a b next0 out0 next1 out1 = tables (sizesOf a b) next0 out0 next1 out1
+tablesOf a b next0 out0 next1 out1 = bothTables (sizesOf a b) next0 out0 next1 out1
 
 pub agree : {a b : Design} {next0 out0 next1 out1 : List ℕ} → Tabled a b next0 out0 next1 out1
     → SameSteps (sizesOf a b) (oldMachine (tablesOf a b next0 out0 next1 out1)) (newMachine (tablesOf a b next0 out0 next1 out1)) (machineOf a) (machineOf b)
 agree {a} {b} {next0} {out0} {next1} {out1} h = tables-agree a b next0 out0 next1 out1 (h .same-inputs) (h .old) (h .new)
 
 module _ {a b : Design} {next0 out0 next1 out1 : List ℕ} (h : Tabled a b next0 out0 next1 out1) {z : Sizes} (e : z ≡ sizesOf a b) (s : Lent) (room : pairs (sizesOf a b) ≤ roomOf s) where
-  no-fault : Free (Fault (tablesOf a b next0 out0 next1 out1) (roomOf s))
+  no-fault : Free (TablesFault (tablesOf a b next0 out0 next1 out1) (roomOf s))
   no-fault k f =
       let w = tables-fault a b next0 out0 next1 out1 (h .same-inputs) (h .old) (h .new) (roomOf s) (h .accepted-old) (h .accepted-new) (h .room-next0) (h .room-out0) (h .room-next1) (h .room-out1) k f in
       omega (arith, w .1, room)
 
-  pub alike-counts : {l : Left} {count round : ℕ} → MapsAlike (tables z next0 out0 next1 out1) s l (MappedAlike.Marked count round)
+  pub alike-counts : {l : Left} {count round : ℕ} → MapsAlike (bothTables z next0 out0 next1 out1) s l (MappedAlike.Marked count round)
       → Counts (Alike (machineOf a) (machineOf b) (Ok (sizesOf a b))) (sizesOf a b) count
   alike-counts {l} {count} {round} m =
-      let w = subst (λ (y : Sizes). MapsAlike (tables y next0 out0 next1 out1) s l (MappedAlike.Marked count round)) e m in
+      let w = subst (λ (y : Sizes). MapsAlike (bothTables y next0 out0 next1 out1) s l (MappedAlike.Marked count round)) e m in
       counts-there (alike-there (agree h)) (alike-there (same-back (agree h))) (w .keeps .1 .marks)
 
-  pub alike-answers : {l : Left} {k : ℕ} → MapsAlike (tables z next0 out0 next1 out1) s l (MappedAlike.Refused k) → ⊥
+  pub alike-answers : {l : Left} {k : ℕ} → MapsAlike (bothTables z next0 out0 next1 out1) s l (MappedAlike.Refused k) → ⊥
   alike-answers {l} {k} m =
-      let w = subst (λ (y : Sizes). MapsAlike (tables y next0 out0 next1 out1) s l (MappedAlike.Refused k)) e m in
+      let w = subst (λ (y : Sizes). MapsAlike (bothTables y next0 out0 next1 out1) s l (MappedAlike.Refused k)) e m in
       no-fault k (w .keeps .0 .applies)
 
-  pub alignable-counts : {l : Left} {count : ℕ} → MapsAlignable (tables z next0 out0 next1 out1) s l (MappedAlignable.Marked count)
+  pub alignable-counts : {l : Left} {count : ℕ} → MapsAlignable (bothTables z next0 out0 next1 out1) s l (MappedAlignable.Marked count)
       → Counts (Alignable (machineOf a) (machineOf b) (Ok (sizesOf a b))) (sizesOf a b) count
   alignable-counts {l} {count} m =
-      let w = subst (λ (y : Sizes). MapsAlignable (tables y next0 out0 next1 out1) s l (MappedAlignable.Marked count)) e m in
+      let w = subst (λ (y : Sizes). MapsAlignable (bothTables y next0 out0 next1 out1) s l (MappedAlignable.Marked count)) e m in
       counts-there (alignable-there (agree h)) (alignable-there (same-back (agree h))) (w .keeps .1)
 
-  pub alignable-answers : {l : Left} {k : ℕ} → MapsAlignable (tables z next0 out0 next1 out1) s l (MappedAlignable.Refused k) → ⊥
+  pub alignable-answers : {l : Left} {k : ℕ} → MapsAlignable (bothTables z next0 out0 next1 out1) s l (MappedAlignable.Refused k) → ⊥
   alignable-answers {l} {k} m =
-      let w = subst (λ (y : Sizes). MapsAlignable (tables y next0 out0 next1 out1) s l (MappedAlignable.Refused k)) e m in
+      let w = subst (λ (y : Sizes). MapsAlignable (bothTables y next0 out0 next1 out1) s l (MappedAlignable.Refused k)) e m in
       no-fault k (w .keeps .0 .applies)

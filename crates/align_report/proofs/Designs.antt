@@ -11,15 +11,15 @@ use Rattle.netlist.specs.declared.Design.{Design}
 use Rattle.machine.specs.declared.Pair.{Pair}
 use Rattle.machine.specs.declared.Sizes.{Sizes}
 use Rattle.machine.specs.Meaning.Lists.{Each}
-use Rattle.machine.specs.Meaning.Tables.{In, Ok, tables, oldMachine, newMachine}
+use Rattle.machine.specs.Meaning.Tables.{In, Ok, bothTables, oldMachine, newMachine}
 use Rattle.machine.proofs.Numbers.{same-pair}
 use Rattle.machine.proofs.Transfer.{same-back, same-closed}
-use Rattle.seek.specs.Meaning.Lent.{Lent, Left}
+use Rattle.machine.specs.Meaning.Lent.{Lent, Left}
 use Rattle.verdict.specs.declared.Verdict.{Verdict}
-use Rattle.verdict.specs.Meaning.Decision.{reply}
+use Rattle.verdict.specs.Meaning.Decision.{verdictReply}
 use Rattle.verdict.proofs.Verdict as verdict
 use Rattle.compare.specs.Meaning.Designs.{machineOf, sizesOf}
-use Rattle.compare.specs.Meaning.Comparing.{TablesLent, TablesLeft, tablesLeft, Compares}
+use Rattle.compare.specs.Meaning.Comparing.{TablesLent, TablesLeft, tablesLeftOf, Compares}
 use Rattle.report.specs.declared.Facts.{Facts}
 use Rattle.report.specs.declared.Side.the-variants.{Both}
 use Rattle.report.specs.Meaning.Text.{refusalText, sameText, apartText, apartIn, shownLine, Printed}
@@ -29,7 +29,7 @@ use Rattle.align_report.specs.Working.Tabled.{numberOf, Tabled, NotSame,
 use Rattle.align_report.proofs.Counting.{tablesOf, agree}
 
 module _ {a b : Design} {n : TablesLent} {s : Lent} {t : TablesLeft} {e : Left} {text′ : List ℕ} {r : ℕ} where
-  pub prints-refused : (v : Verdict) {k : ℕ} → Compares a b n s t e v → NotSame v → OneOf (0 ∷ 2 ∷ []) (tagOf verdict.the-type v) → k ≡ numberOf (reply v)
+  pub prints-refused : (v : Verdict) {k : ℕ} → Compares a b n s t e v → NotSame v → OneOf (0 ∷ 2 ∷ []) (tagOf verdict.the-type v) → k ≡ numberOf (verdictReply v)
       → Printed (refusalText Both k) text′ r → ReportsDesigns a b n s text′ r
   prints-refused (Verdict.Same m) w other h i q = absurd other
   prints-refused (Verdict.Apart p m) w other (inl h) i q = absurd (omega arith)
@@ -51,11 +51,11 @@ apart-there {a} {b} {next0} {out0} {next1} {out1} h f p l =
     (same-closed (same-back g)) f p l
 
 pub prints-apart : {a b : Design} {n : TablesLent} {s : Lent} {next0 out0 next1 out1 : List ℕ} {e : Left} {z : Sizes} {p : Pair} {m : ℕ} {f : Facts} {text′ : List ℕ} {r : ℕ}
-    → Compares a b n s (tablesLeft next0 out0 next1 out1) e (Verdict.Apart p m) → Tabled a b next0 out0 next1 out1 → z ≡ sizesOf a b → FactsOf a b f
-    → Printed (apartIn (tables z next0 out0 next1 out1) f p (take m (e .written))) text′ r → ReportsDesigns a b n s text′ r
+    → Compares a b n s (tablesLeftOf next0 out0 next1 out1) e (Verdict.Apart p m) → Tabled a b next0 out0 next1 out1 → z ≡ sizesOf a b → FactsOf a b f
+    → Printed (apartIn (bothTables z next0 out0 next1 out1) f p (take m (e .written))) text′ r → ReportsDesigns a b n s text′ r
 prints-apart {a} {b} {next0 = next0} {out0} {next1} {out1} {e} {z} {p} {m} {f} {text′} {r} w h same facts q =
     let k = w .keeps .1 .decided .sought in
-    let x = subst (λ (y : Sizes). take r text′ ≡ apartIn (tables y next0 out0 next1 out1) f p (take m (e .written))) same (q .is) in
+    let x = subst (λ (y : Sizes). take r text′ ≡ apartIn (bothTables y next0 out0 next1 out1) f p (take m (e .written))) same (q .is) in
     record {
       answers = AnswersDesigns.apart (w .keeps .0) f facts p _ k (x ∙ apart-there h f p (take m (e .written)) (k .lowest .inside) (k .trace .has .allowed));
       counts = q .counts;

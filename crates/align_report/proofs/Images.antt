@@ -14,7 +14,7 @@ use Rattle.image.specs.declared.Reading.{Reading}
 use Rattle.image.specs.Meaning.Format.{bytesIn, decoded}
 use Rattle.image.specs.Meaning.Faults.{ImageFault, HeaderFault}
 use Rattle.image.specs.Meaning.Reading.{Measures, ReadsImage, lengthReply, readReply, emptyDesign}
-use Rattle.seek.specs.Meaning.Lent.{Lent}
+use Rattle.machine.specs.Meaning.Lent.{Lent}
 use Rattle.compare.specs.Meaning.Comparing.{TablesLent}
 use Rattle.report.specs.declared.Side.the-variants.{Old, New}
 use Rattle.report.specs.Meaning.Text.{refusalText, Printed}

@@ -8,10 +8,10 @@ ghost use mathlib.Core.Path.{_≡_};
 ghost use Prim.Native.Nat.{_^_};
 ghost use Rattle.netlist.specs.Meaning.Faults.{Accepted};
 ghost use Rattle.machine.specs.Meaning.Tables.{pairs};
-ghost use Rattle.seek.specs.Meaning.Lent.{lent};
+ghost use Rattle.machine.specs.Meaning.Lent.{lentOf};
 ghost use Rattle.engine.specs.Meaning.Maps.{roomOf};
 ghost use Rattle.compare.specs.Meaning.Designs.{sizesOf};
-ghost use Rattle.compare.specs.Meaning.Comparing.{tablesLent};
+ghost use Rattle.compare.specs.Meaning.Comparing.{tablesLentOf};
 ghost use Rattle.align_report.specs.Meaning.Report.{Reports};
 ghost use Rattle.align_report.specs.Working.Tabled.{Tabled, CountsPairs, ComparesIn, NotSame, ReportsDesigns};
 use engine::MappedAlignable;
@@ -40,7 +40,7 @@ pub fn write_report(
 ) -> usize
     requires { ⌜ 400 + 12 * length (now list) ≤ length (now text) ⌝ }
     requires { ⌜ 16384 ≤ length (now marks) ⌝ }
-    ensures { λ r. ⌜ Reports (now (input .entry)) (tablesLent (length (now («old_next» .entry))) (length (now («old_out» .entry))) (length (now («new_next» .entry))) (length (now («new_out» .entry)))) (lent (length (now (depth .entry))) (length (now (reach .entry))) (length (now (list .entry)))) (now (text .exit)) r ⌝ }
+    ensures { λ r. ⌜ Reports (now (input .entry)) (tablesLentOf (length (now («old_next» .entry))) (length (now («old_out» .entry))) (length (now («new_next» .entry))) (length (now («new_out» .entry)))) (lentOf (length (now (depth .entry))) (length (now (reach .entry))) (length (now (list .entry)))) (now (text .exit)) r ⌝ }
 {
     let measured = image::length_of(input);
     let Length::Bytes(n) = measured else {
@@ -89,7 +89,7 @@ fn write_comparison(
 ) -> usize
     requires { ⌜ 400 + 12 * length (now list) ≤ length (now text) ⌝ }
     requires { ⌜ 16384 ≤ length (now marks) ⌝ }
-    ensures { λ r. ⌜ ReportsDesigns old new (tablesLent (length (now («old_next» .entry))) (length (now («old_out» .entry))) (length (now («new_next» .entry))) (length (now («new_out» .entry)))) (lent (length (now (depth .entry))) (length (now (reach .entry))) (length (now (list .entry)))) (now (text .exit)) r ⌝ }
+    ensures { λ r. ⌜ ReportsDesigns old new (tablesLentOf (length (now («old_next» .entry))) (length (now («old_out» .entry))) (length (now («new_next» .entry))) (length (now («new_out» .entry)))) (lentOf (length (now (depth .entry))) (length (now (reach .entry))) (length (now (list .entry)))) (now (text .exit)) r ⌝ }
 {
     let verdict = compare::compare(
         old,
@@ -154,7 +154,7 @@ fn write_apart(
     requires { ⌜ ComparesIn old new (now «old_next») (now «old_out») (now «new_next») (now «new_out») (now depth) (now reach) (now list) verdict ⌝ }
     requires { ⌜ NotSame verdict ⌝ }
     requires { ⌜ 16384 ≤ length (now marks) ⌝ }
-    ensures { λ r. ⌜ ReportsDesigns old new (tablesLent (length (now («old_next» .entry))) (length (now («old_out» .entry))) (length (now («new_next» .entry))) (length (now («new_out» .entry)))) (lent (length (now (depth .entry))) (length (now (reach .entry))) (length (now (list .entry)))) (now (text .exit)) r ⌝ }
+    ensures { λ r. ⌜ ReportsDesigns old new (tablesLentOf (length (now («old_next» .entry))) (length (now («old_out» .entry))) (length (now («new_next» .entry))) (length (now («new_out» .entry)))) (lentOf (length (now (depth .entry))) (length (now (reach .entry))) (length (now (list .entry)))) (now (text .exit)) r ⌝ }
 {
     let Verdict::Apart(pair, steps) = verdict else {
         return report::put_refusal(Side::Both, numbers_of::verdict(verdict), text);
@@ -207,7 +207,7 @@ fn count_pairs(
     marks: &mut [u8],
 ) -> Counted
     requires { ⌜ Tabled old new (now «old_next») (now «old_out») (now «new_next») (now «new_out») ⌝ }
-    requires { ⌜ pairs (sizesOf old new) ≤ roomOf (lent (length (now depth)) (length (now reach)) (length (now marks))) ⌝ }
+    requires { ⌜ pairs (sizesOf old new) ≤ roomOf (lentOf (length (now depth)) (length (now reach)) (length (now marks))) ⌝ }
     ensures { λ r. ⌜ CountsPairs old new r ⌝ }
 {
     let sizes = sizes_of(old, new);

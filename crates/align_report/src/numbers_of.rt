@@ -1,7 +1,7 @@
 // The number of a refusal, and 0 of an answer.
 ghost use mathlib.Core.Path.{_≡_};
 ghost use Rattle.image.specs.Meaning.Reading.{lengthReply, readReply, emptyDesign};
-ghost use Rattle.verdict.specs.Meaning.Decision.{reply};
+ghost use Rattle.verdict.specs.Meaning.Decision.{verdictReply};
 ghost use Rattle.align_report.specs.Working.Tabled.{numberOf};
 use crate::Counted;
 use engine::MappedAlignable;
@@ -29,7 +29,7 @@ pub fn answer(r: Answer) -> u8
 }
 
 pub fn verdict(r: Verdict) -> u8
-    ensures { λ n. ⌜ n ≡ numberOf (reply r) ⌝ }
+    ensures { λ n. ⌜ n ≡ numberOf (verdictReply r) ⌝ }
 {
     match r {
         Verdict::Same(_) => 0,

@@ -12,9 +12,9 @@ use Rattle.netlist.specs.Meaning.Faults.{Accepted}
 use Rattle.netlist.proofs.Numbers.{sound-of}
 use Rattle.simulator.specs.Meaning.Tables.{sizeOf, HoldsDesign}
 use Rattle.simulator.proofs.Values.{next-state-lt}
-use Rattle.machine.specs.Meaning.Tables.{Ok, Tables, tables, pairs, oldMachine, newMachine}
+use Rattle.machine.specs.Meaning.Tables.{Ok, Tables, bothTables, pairs, oldMachine, newMachine}
 use Rattle.machine.specs.Working.Pairs.{SameMachine, SameSteps}
-use Rattle.seek.specs.Meaning.Faults.{OutOfRange, TooShort, LeadsOut, Fault}
+use Rattle.machine.specs.Meaning.Faults.{OutOfRange, TooShort, LeadsOut, TablesFault}
 use Rattle.compare.specs.Meaning.Designs.{machineOf, sizesOf}
 
 -- slices that hold a design, read as a table of v vectors
@@ -54,7 +54,7 @@ vectors-few {d} a = pow-mono {i = d .inputs} {j = 6} (sound-of a .few-inputs)
 -- two tables
 module _ (a b : Design) (next0 out0 next1 out1 : List ℕ) (same : a .inputs ≡ b .inputs) (h0 : HoldsDesign a next0 out0) (h1 : HoldsDesign b next1 out1) where
   abbrev Both : Tables
-  Both = tables (sizesOf a b) next0 out0 next1 out1
+  Both = bothTables (sizesOf a b) next0 out0 next1 out1
 
   same-vectors : vectorsOf b ≡ vectorsOf a
   same-vectors = ap (λ (n : ℕ). 2 ^ n) (sym same)
@@ -68,7 +68,7 @@ module _ (a b : Design) (next0 out0 next1 out1 : List ℕ) (same : a .inputs ≡
   -- of 11, 12 and 13 only short scratch can be found
   pub tables-fault : (room : ℕ) → Accepted a → Accepted b
       → sizeOf a ≤ length next0 → sizeOf a ≤ length out0 → sizeOf b ≤ length next1 → sizeOf b ≤ length out1
-      → (n : ℕ) → Fault Both room n → (n ≡ 12) × (room < pairs (sizesOf a b))
+      → (n : ℕ) → TablesFault Both room n → (n ≡ 12) × (room < pairs (sizesOf a b))
   tables-fault room x y p q r s n f = go f
     where
       size-b : sizeOf b ≡ statesOf b * vectorsOf a
@@ -89,8 +89,8 @@ module _ (a b : Design) (next0 out0 next1 out1 : List ℕ) (same : a .inputs ≡
       short (TooShort.new-out z) = absurd (omega (arith, z, s, size-b))
       short (TooShort.lent z) = z
 
-      go : {n : ℕ} → Fault Both room n → (n ≡ 12) × (room < pairs (sizesOf a b))
-      go (Fault.range z) = absurd (no-range z)
-      go (Fault.short z) = (refl, short z)
-      go (Fault.old-leads (LeadsOut.leads i l z)) = absurd (omega (arith, z, table-stays a (vectorsOf a) next0 out0 refl h0 i l))
-      go (Fault.new-leads (LeadsOut.leads i l z)) = absurd (omega (arith, z, table-stays b (vectorsOf a) next1 out1 same-vectors h1 i l))
+      go : {n : ℕ} → TablesFault Both room n → (n ≡ 12) × (room < pairs (sizesOf a b))
+      go (TablesFault.range z) = absurd (no-range z)
+      go (TablesFault.short z) = (refl, short z)
+      go (TablesFault.old-leads (LeadsOut.leads i l z)) = absurd (omega (arith, z, table-stays a (vectorsOf a) next0 out0 refl h0 i l))
+      go (TablesFault.new-leads (LeadsOut.leads i l z)) = absurd (omega (arith, z, table-stays b (vectorsOf a) next1 out1 same-vectors h1 i l))

@@ -15,17 +15,17 @@ use Rattle.simulator.proofs.Room.{zero-tables}
 use Rattle.simulator.specs.Meaning.Tables.{HoldsDesign, TableFault, InterfaceFault, BothFault, TabulatesBoth}
 use Rattle.machine.specs.declared.Sizes.{Sizes}
 use Rattle.machine.specs.Meaning.Machine.{Machine}
-use Rattle.machine.specs.Meaning.Tables.{Tables, tables, oldMachine, newMachine}
+use Rattle.machine.specs.Meaning.Tables.{Tables, bothTables, oldMachine, newMachine}
 use Rattle.machine.specs.Working.Pairs.{SameSteps}
 use Rattle.machine.proofs.Transfer.{same-back, same-there, is-apart-there, written-there}
-use Rattle.seek.specs.Meaning.Faults.{Fault, TooShort}
-use Rattle.seek.specs.Meaning.Lent.{Lent, Left, left}
+use Rattle.machine.specs.Meaning.Faults.{TablesFault, TooShort}
+use Rattle.machine.specs.Meaning.Lent.{Lent, Left, leftOf}
 use Rattle.verdict.specs.declared.Verdict.{Verdict}
 use Rattle.verdict.specs.Meaning.Decision.{Decision, Decided, ShortList, short}
 use Rattle.verdict.specs.Meaning.Decision as D
 use Rattle.verdict.specs.Meaning.Promise.{JudgeFault}
 use Rattle.compare.specs.Meaning.Designs.{machineOf, sizesOf}
-use Rattle.compare.specs.Meaning.Comparing.{TablesLent, TablesLeft, tablesLeft, CompareFault, Compared, TablesKept, Compares}
+use Rattle.compare.specs.Meaning.Comparing.{TablesLent, TablesLeft, tablesLeftOf, CompareFault, Compared, TablesKept, Compares}
 use Rattle.compare.specs.Working.Judging.{JudgedOrCleared}
 use Rattle.compare.proofs.Agreement.{tables-agree, tables-fault}
 
@@ -46,7 +46,7 @@ module _ (a b : Design) (n : TablesLent) (s : Lent) (next0 out0 next1 out1 : Lis
     (size0 : length next0 ≡ n .old-next) (size1 : length out0 ≡ n .old-out) (size2 : length next1 ≡ n .new-next) (size3 : length out1 ≡ n .new-out)
     (h0 : HoldsDesign a next0 out0) (h1 : HoldsDesign b next1 out1) where
   abbrev Both : Tables
-  Both = tables (sizesOf a b) next0 out0 next1 out1
+  Both = bothTables (sizesOf a b) next0 out0 next1 out1
 
   accepted-old : Accepted a
   accepted-old k f = free k (BothFault.old (TableFault.design f))
@@ -72,13 +72,13 @@ module _ (a b : Design) (n : TablesLent) (s : Lent) (next0 out0 next1 out1 : Lis
 
   fault-back : (k : ℕ) → CompareFault a b n s k → JudgeFault Both s k
   fault-back k (CompareFault.tabulating f) = absurd (free k f)
-  fault-back k (CompareFault.scratch h) = JudgeFault.call (Fault.short (TooShort.lent h))
+  fault-back k (CompareFault.scratch h) = JudgeFault.call (TablesFault.short (TooShort.lent h))
   fault-back k (CompareFault.list f) = JudgeFault.list (short-there (same-back agree) (s .written) k f)
 
-  answered : (t : TablesLeft) (e : Left) (x : Decision) → t ≡ tablesLeft next0 out0 next1 out1 → Decided (oldMachine Both) (newMachine Both) (sizesOf a b) (e .written) x → Compared a b t e x
+  answered : (t : TablesLeft) (e : Left) (x : Decision) → t ≡ tablesLeftOf next0 out0 next1 out1 → Decided (oldMachine Both) (newMachine Both) (sizesOf a b) (e .written) x → Compared a b t e x
   answered t e x q w = rw q (record { decided = decided-there agree (e .written) x w; old = h0; new = h1 })
 
-  kept : (t : TablesLeft) → t ≡ tablesLeft next0 out0 next1 out1 → TablesKept n t
+  kept : (t : TablesLeft) → t ≡ tablesLeftOf next0 out0 next1 out1 → TablesKept n t
   kept t q = rw q (record { old-next = size0; old-out = size1; new-next = size2; new-out = size3 })
 
   compared : (t : TablesLeft) (e : Left) (r : Verdict) → JudgedOrCleared Both s t e r → Compares a b n s t e r
@@ -103,7 +103,7 @@ module _ (a b : Design) (n : TablesLent) (s : Lent) (next0 out0 next1 out1 : Lis
 -- the two calls one after the other
 pub compared-both : (a b : Design) (n : TablesLent) (s : Lent) (s0 s1 v : ℕ) (next0 out0 next1 out1 : List ℕ) (t : TablesLeft) (e : Left) (r : Verdict)
     → TabulatesBoth a b (n .old-next) (n .old-out) (n .new-next) (n .new-out) (TabulatedBoth.Both s0 s1 v) next0 out0 next1 out1
-    → JudgedOrCleared (tables (record { old = s0; new = s1; vectors = v }) next0 out0 next1 out1) s t e r → Compares a b n s t e r
+    → JudgedOrCleared (bothTables (record { old = s0; new = s1; vectors = v }) next0 out0 next1 out1) s t e r → Compares a b n s t e r
 compared-both a b n s s0 s1 v next0 out0 next1 out1 t e r w j =
     let k = w .keeps .1 in
     let p = k .old-states in
@@ -111,7 +111,7 @@ compared-both a b n s s0 s1 v next0 out0 next1 out1 t e r w j =
     let u = k .vectors in
     let z : _≡_ {A = Sizes} (record { old = s0; new = s1; vectors = v }) (sizesOf a b) = cc in
     compared a b n s next0 out0 next1 out1 (w .keeps .0) (w .size-next0) (w .size-out0) (w .size-next1) (w .size-out1) (k .old) (k .new) t e r
-    (subst (λ (x : Sizes). JudgedOrCleared (tables x next0 out0 next1 out1) s t e r) z j)
+    (subst (λ (x : Sizes). JudgedOrCleared (bothTables x next0 out0 next1 out1) s t e r) z j)
 
 -- a refusal of the tabulating call: nothing above 12 is lower
 both-most : {a b : Design} {n0 m0 n1 m1 k : ℕ} → BothFault a b n0 m0 n1 m1 k → k ≤ 12
@@ -127,7 +127,7 @@ both-most (BothFault.interface (InterfaceFault.other-outputs d)) = omega arith
 pub refused-first : (a b : Design) (n : TablesLent) (s : Lent) (k : ℕ) (next0 out0 next1 out1 depth reach written : List ℕ)
     → TabulatesBoth a b (n .old-next) (n .old-out) (n .new-next) (n .new-out) (TabulatedBoth.Refused k) next0 out0 next1 out1
     → Cleared (s .depth) depth → Cleared (s .reach) reach → Cleared (s .written) written
-    → Compares a b n s (tablesLeft next0 out0 next1 out1) (left depth reach written) (Verdict.Refused k)
+    → Compares a b n s (tablesLeftOf next0 out0 next1 out1) (leftOf depth reach written) (Verdict.Refused k)
 refused-first a b n s k next0 out0 next1 out1 depth reach written w x y z = record {
   keeps = (record { applies = CompareFault.tabulating (w .keeps .0 .applies); lower = lower }, record { old = w .keeps .1 .0; new = w .keeps .1 .1; list = z .zero });
   tidy = record { depth = x; reach = y; written = z .size };

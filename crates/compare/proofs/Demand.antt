@@ -14,16 +14,16 @@ use Rattle.simulator.specs.declared.TabulatedBoth.{TabulatedBoth}
 use Rattle.simulator.specs.Meaning.Tables.{HoldsDesign, TableFault, InterfaceFault, BothFault, Tabulates, TabulatesBoth}
 use Rattle.machine.specs.declared.Sizes.{Sizes}
 use Rattle.machine.specs.declared.Pair.{Pair}
-use Rattle.machine.specs.Meaning.Tables.{tables, In}
+use Rattle.machine.specs.Meaning.Tables.{bothTables, In}
 use Rattle.machine.proofs.Transfer.{written-there}
 use Rattle.machine.proofs.Verdict.{same-drives-all}
-use Rattle.seek.specs.Meaning.Lent.{Lent, Left}
+use Rattle.machine.specs.Meaning.Lent.{Lent, Left}
 use Rattle.verdict.specs.declared.Verdict.{Verdict}
 use Rattle.verdict.specs.Meaning.Decision.{Decided, short}
 use Rattle.verdict.specs.Meaning.Decision as D
 use Rattle.verdict.specs.Meaning.Promise.{JudgeFault, Judges}
 use Rattle.compare.specs.Meaning.Designs.{machineOf, sizesOf, Compatible}
-use Rattle.compare.specs.Meaning.Comparing.{TablesLent, tablesLent, TablesLeft, CompareFault, Compares}
+use Rattle.compare.specs.Meaning.Comparing.{TablesLent, tablesLentOf, TablesLeft, CompareFault, Compares}
 use Rattle.compare.specs.Meaning.Demand.{Driven, Right, EnoughTables, Enough, Demand3}
 use Rattle.compare.specs.Meaning.Demand as R
 use Rattle.compare.proofs.Agreement.{tables-agree, tables-fault}
@@ -59,22 +59,22 @@ demand-3 a b n s t e (Verdict.Refused m) h x y c u k = absurd (no-fault a b n s 
 
 -- the sizes that tabulating hands back are the designs'
 judged-sizes : (a b : Design) {s0 s1 v : ℕ} {next0 out0 next1 out1 : List ℕ} {s : Lent} {e : Left} {r : Verdict} → s0 ≡ statesOf a → s1 ≡ statesOf b → v ≡ vectorsOf a
-    → Judges (tables (record { old = s0; new = s1; vectors = v }) next0 out0 next1 out1) s e r → Judges (tables (sizesOf a b) next0 out0 next1 out1) s e r
+    → Judges (bothTables (record { old = s0; new = s1; vectors = v }) next0 out0 next1 out1) s e r → Judges (bothTables (sizesOf a b) next0 out0 next1 out1) s e r
 judged-sizes a b {s0} {s1} {v} {next0} {out0} {next1} {out1} {s} {e} {r} p q u j =
     let z : _≡_ {A = Sizes} (record { old = s0; new = s1; vectors = v }) (sizesOf a b) = cc in
-    subst (λ (x : Sizes). Judges (tables x next0 out0 next1 out1) s e r) z j
+    subst (λ (x : Sizes). Judges (bothTables x next0 out0 next1 out1) s e r) z j
 
 -- demand 3 of `judge`, over tables of the two designs, however they were written
 pub demand-3-tables : (a b : Design) (next0 out0 next1 out1 : List ℕ) (s : Lent) (e : Left) (r : Verdict)
-    → HoldsDesign a next0 out0 → HoldsDesign b next1 out1 → Judges (tables (sizesOf a b) next0 out0 next1 out1) s e r
-    → Demand3 a b (tablesLent (length next0) (length out0) (length next1) (length out1)) s e r
+    → HoldsDesign a next0 out0 → HoldsDesign b next1 out1 → Judges (bothTables (sizesOf a b) next0 out0 next1 out1) s e r
+    → Demand3 a b (tablesLentOf (length next0) (length out0) (length next1) (length out1)) s e r
 demand-3-tables a b next0 out0 next1 out1 s e (Verdict.Same m) h0 h1 j x y c u k =
     same-right a b (e .written) m (decided-there (tables-agree a b next0 out0 next1 out1 (c .inputs) h0 h1) (e .written) (D.same m) (j .keeps .1))
 demand-3-tables a b next0 out0 next1 out1 s e (Verdict.Apart p m) h0 h1 j x y c u k =
     apart-right a b (e .written) p m (decided-there (tables-agree a b next0 out0 next1 out1 (c .inputs) h0 h1) (e .written) (D.apart p m) (j .keeps .1))
 demand-3-tables a b next0 out0 next1 out1 s e (Verdict.Refused m) h0 h1 j x y c u k = absurd (none m (j .keeps .0 .applies))
   where
-    none : (m : ℕ) → JudgeFault (tables (sizesOf a b) next0 out0 next1 out1) s m → ⊥
+    none : (m : ℕ) → JudgeFault (bothTables (sizesOf a b) next0 out0 next1 out1) s m → ⊥
     none m (JudgeFault.call f) =
         let w = tables-fault a b next0 out0 next1 out1 (c .inputs) h0 h1 (min (s .depth) (s .reach)) x y (u .old-next) (u .old-out) (u .new-next) (u .new-out) m f in
         omega (arith, w .1, k .scratch)
@@ -84,7 +84,7 @@ demand-3-tables a b next0 out0 next1 out1 s e (Verdict.Refused m) h0 h1 j x y c 
 -- both or one for each; each S given to the verdict is 2 to that design's L, and V is 2 to the I"
 pub demand-3-both : (a b : Design) (n : TablesLent) (s0 s1 v : ℕ) (next0 out0 next1 out1 : List ℕ) (s : Lent) (e : Left) (r : Verdict)
     → TabulatesBoth a b (n .old-next) (n .old-out) (n .new-next) (n .new-out) (TabulatedBoth.Both s0 s1 v) next0 out0 next1 out1
-    → Judges (tables (record { old = s0; new = s1; vectors = v }) next0 out0 next1 out1) s e r → Demand3 a b n s e r
+    → Judges (bothTables (record { old = s0; new = s1; vectors = v }) next0 out0 next1 out1) s e r → Demand3 a b n s e r
 demand-3-both a b n s0 s1 v next0 out0 next1 out1 s e r w j x y c u k =
     let t = w .keeps .1 in
     demand-3-tables a b next0 out0 next1 out1 s e r (t .old) (t .new) (judged-sizes a b (t .old-states) (t .new-states) (t .vectors) j) x y c
@@ -92,7 +92,7 @@ demand-3-both a b n s0 s1 v next0 out0 next1 out1 s e r w j x y c u k =
 
 pub demand-3-each : (a b : Design) (n : TablesLent) (s0 s1 v w : ℕ) (next0 out0 next1 out1 : List ℕ) (s : Lent) (e : Left) (r : Verdict)
     → Tabulates a (n .old-next) (n .old-out) (Tabulated.Table s0 v) next0 out0 → Tabulates b (n .new-next) (n .new-out) (Tabulated.Table s1 w) next1 out1
-    → Judges (tables (record { old = s0; new = s1; vectors = v }) next0 out0 next1 out1) s e r → Demand3 a b n s e r
+    → Judges (bothTables (record { old = s0; new = s1; vectors = v }) next0 out0 next1 out1) s e r → Demand3 a b n s e r
 demand-3-each a b n s0 s1 v w next0 out0 next1 out1 s e r p q j x y c u k =
     let f = p .keeps .1 in
     let g = q .keeps .1 in

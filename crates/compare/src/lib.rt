@@ -1,8 +1,8 @@
 // Two designs to a verdict: their tables are written, and judged. A refusal that comes only then clears the tables again.
 ghost use lib.ListN.{length};
-ghost use Rattle.machine.specs.Meaning.Tables.{tables};
-ghost use Rattle.seek.specs.Meaning.Lent.{lent, left};
-ghost use Rattle.compare.specs.Meaning.Comparing.{tablesLent, tablesLeft, Compares};
+ghost use Rattle.machine.specs.Meaning.Tables.{bothTables};
+ghost use Rattle.machine.specs.Meaning.Lent.{lentOf, leftOf};
+ghost use Rattle.compare.specs.Meaning.Comparing.{tablesLentOf, tablesLeftOf, Compares};
 ghost use Rattle.compare.specs.Working.Judging.{JudgedOrCleared};
 use machine::Sizes;
 use netlist::Design;
@@ -21,7 +21,7 @@ pub fn compare(
     reach: &mut [u16],
     list: &mut [u8],
 ) -> Verdict
-    ensures { λ r. ⌜ Compares old new (tablesLent (length (now («old_next» .entry))) (length (now («old_out» .entry))) (length (now («new_next» .entry))) (length (now («new_out» .entry)))) (lent (length (now (depth .entry))) (length (now (reach .entry))) (length (now (list .entry)))) (tablesLeft (now («old_next» .exit)) (now («old_out» .exit)) (now («new_next» .exit)) (now («new_out» .exit))) (left (now (depth .exit)) (now (reach .exit)) (now (list .exit))) r ⌝ }
+    ensures { λ r. ⌜ Compares old new (tablesLentOf (length (now («old_next» .entry))) (length (now («old_out» .entry))) (length (now («new_next» .entry))) (length (now («new_out» .entry)))) (lentOf (length (now (depth .entry))) (length (now (reach .entry))) (length (now (list .entry)))) (tablesLeftOf (now («old_next» .exit)) (now («old_out» .exit)) (now («new_next» .exit)) (now («new_out» .exit))) (leftOf (now (depth .exit)) (now (reach .exit)) (now (list .exit))) r ⌝ }
 {
     let tabulated = simulator::tabulate_both(old, new, old_next, old_out, new_next, new_out);
     match tabulated {
@@ -66,7 +66,7 @@ fn judge_or_clear(
     reach: &mut [u16],
     list: &mut [u8],
 ) -> Verdict
-    ensures { λ r. ⌜ JudgedOrCleared (tables sizes (now («old_next» .entry)) (now («old_out» .entry)) (now («new_next» .entry)) (now («new_out» .entry))) (lent (length (now (depth .entry))) (length (now (reach .entry))) (length (now (list .entry)))) (tablesLeft (now («old_next» .exit)) (now («old_out» .exit)) (now («new_next» .exit)) (now («new_out» .exit))) (left (now (depth .exit)) (now (reach .exit)) (now (list .exit))) r ⌝ }
+    ensures { λ r. ⌜ JudgedOrCleared (bothTables sizes (now («old_next» .entry)) (now («old_out» .entry)) (now («new_next» .entry)) (now («new_out» .entry))) (lentOf (length (now (depth .entry))) (length (now (reach .entry))) (length (now (list .entry)))) (tablesLeftOf (now («old_next» .exit)) (now («old_out» .exit)) (now («new_next» .exit)) (now («new_out» .exit))) (leftOf (now (depth .exit)) (now (reach .exit)) (now (list .exit))) r ⌝ }
 {
     let answer = verdict::judge(
         old_next,

@@ -1,5 +1,5 @@
 -- Slices that were cleared are left tidy.
-use Rattle.seek.specs.Meaning.Lent.{Lent, Left, Tidy}
+use Rattle.machine.specs.Meaning.Lent.{Lent, Left, Tidy}
 use Rattle.engine.specs.Working.Clearing.{Emptied}
 
 pub tidy-of : {s : Lent} {e : Left} → Emptied s e → Tidy s e

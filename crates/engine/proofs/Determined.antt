@@ -19,11 +19,11 @@ use Rattle.machine.proofs.Order.{first-unique}
 use Rattle.machine.proofs.Rounds.{round-unique}
 use Rattle.machine.specs.Working.Pairs.{pairAt}
 use Rattle.machine.proofs.Numbers.{pairAt-in, at-pair}
-use Rattle.seek.specs.Meaning.Faults.{Fault}
+use Rattle.machine.specs.Meaning.Faults.{TablesFault}
 use Rattle.seek.proofs.Refusals.{fault-some}
 use Rattle.engine.specs.declared.MappedAlike.{MappedAlike}
 use Rattle.engine.specs.declared.MappedAlignable.{MappedAlignable}
-use Rattle.seek.specs.Meaning.Lent.{Lent, Left, Tidy, Listed}
+use Rattle.machine.specs.Meaning.Lent.{Lent, Left, Tidy, Listed}
 use Rattle.engine.specs.Meaning.Maps.{AlikeCount, alikeReply, alignableReply, roomOf, Marks, MarksAlike, MapsAlike, MapsAlignable}
 use Rattle.engine.specs.Meaning.Pairs.{foundReply, StateFault, PairFault, Finds, FindsTrace, FindsList}
 
@@ -129,7 +129,7 @@ of-found (Found.Refused n) = refl
 module _ (t : Tables) (s : Lent) (e f : Left) where
   pub maps-alike-unique : (r u : MappedAlike) → MapsAlike t s e r → MapsAlike t s f u → (r ≡ u) × (e ≡ f)
   maps-alike-unique r u x y =
-      let both = calls-unique (Fault t (roomOf s)) (MarksAlike t) one s e f (x .tidy) (y .tidy) (alikeReply r) (alikeReply u) (x .keeps) (y .keeps) in
+      let both = calls-unique (TablesFault t (roomOf s)) (MarksAlike t) one s e f (x .tidy) (y .tidy) (alikeReply r) (alikeReply u) (x .keeps) (y .keeps) in
       (sym (of-alike r) ∙ ap alikeOf (both .0) ∙ of-alike u, both .1)
     where
       one : (l k : List ℕ) → length l ≡ length k → (a b : AlikeCount) → MarksAlike t l a → MarksAlike t k b → (a ≡ b) × (l ≡ k)
@@ -140,7 +140,7 @@ module _ (t : Tables) (s : Lent) (e f : Left) where
 
   pub maps-alignable-unique : (r u : MappedAlignable) → MapsAlignable t s e r → MapsAlignable t s f u → (r ≡ u) × (e ≡ f)
   maps-alignable-unique r u x y =
-      let both = calls-unique (Fault t (roomOf s)) (Marks (AlignableIn t) (t .sizes)) (λ l k long a b p q. (same-count p q long, same-marks p q long))
+      let both = calls-unique (TablesFault t (roomOf s)) (Marks (AlignableIn t) (t .sizes)) (λ l k long a b p q. (same-count p q long, same-marks p q long))
       s e f (x .tidy) (y .tidy) (alignableReply r) (alignableReply u) (x .keeps) (y .keeps) in
       (sym (of-alignable r) ∙ ap alignableOf (both .0) ∙ of-alignable u, both .1)
 

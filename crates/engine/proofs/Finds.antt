@@ -12,10 +12,10 @@ use Rattle.memory.proofs.Refusals.{some-number, no-number}
 use Rattle.machine.specs.declared.Found.{Found}
 use Rattle.machine.specs.declared.Pair.{Pair}
 use Rattle.machine.specs.Meaning.Tables.{Tables, In}
-use Rattle.seek.specs.Meaning.Faults.{Fault}
+use Rattle.machine.specs.Meaning.Faults.{TablesFault}
 use Rattle.seek.specs.Working.Steps.{Outcome, missing, short, steps}
 use Rattle.seek.proofs.Refusals.{fault-most}
-use Rattle.seek.specs.Meaning.Lent.{Lent, Listed}
+use Rattle.machine.specs.Meaning.Lent.{Lent, Listed}
 use Rattle.engine.specs.Meaning.Pairs.{foundReply, StateFault, PairFault}
 
 -- 11 to 14
@@ -25,7 +25,7 @@ module _ {t : Tables} {room : ℕ} {p : Pair} where
   state-most (StateFault.old-state h) = omega arith
   state-most (StateFault.new-state h) = omega arith
 
-  pub at-call : {n : ℕ} → (n ≡ 0 → ⊥) → LowestOrNone (Fault t room) n → LowestOrNone (StateFault t room p) n
+  pub at-call : {n : ℕ} → (n ≡ 0 → ⊥) → LowestOrNone (TablesFault t room) n → LowestOrNone (StateFault t room p) n
   at-call {n} e l = some-number e (record { applies = StateFault.call (l .some e .applies); lower = λ m h f. go f h })
     where
       go : {m : ℕ} → StateFault t room p m → m < n → ⊥
@@ -33,7 +33,7 @@ module _ {t : Tables} {room : ℕ} {p : Pair} where
       go (StateFault.old-state o) h = omega (arith, fault-most (l .some e .applies))
       go (StateFault.new-state o) h = omega (arith, fault-most (l .some e .applies))
 
-  module _ (none : Free (Fault t room)) where
+  module _ (none : Free (TablesFault t room)) where
     pub at-14 : StateFault t room p 14 → LowestOrNone (StateFault t room p) 14
     at-14 s = some-number (λ e. omega arith) (record { applies = s; lower = λ m h f. go f h })
       where
@@ -52,7 +52,7 @@ module _ {t : Tables} {room : ℕ} {p : Pair} where
 
   -- a call to which none of them applies
   module _ (free : Free (StateFault t room p)) where
-    pub free-call : Free (Fault t room)
+    pub free-call : Free (TablesFault t room)
     free-call m f = free m (StateFault.call f)
 
     pub free-in : In (t .sizes) p

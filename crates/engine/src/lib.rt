@@ -4,10 +4,10 @@ ghost use Prim.Native.Nat.{_≤_, min};
 ghost use lib.ListN.{length};
 ghost use Rattle.memory.specs.Meaning.Refusals.{Free, LowestOrNone};
 ghost use Rattle.memory.specs.Meaning.Slices.{Zero, Cleared};
-ghost use Rattle.machine.specs.Meaning.Tables.{tables, pairs, In, AlikeIn, AlignableIn, TraceIn, ListIn};
-ghost use Rattle.seek.specs.Meaning.Faults.{Fault};
+ghost use Rattle.machine.specs.Meaning.Tables.{bothTables, pairs, In, AlikeIn, AlignableIn, TraceIn, ListIn};
+ghost use Rattle.machine.specs.Meaning.Faults.{TablesFault};
 ghost use Rattle.seek.specs.Working.Steps.{Good, Outcome};
-ghost use Rattle.seek.specs.Meaning.Lent.{lent, left};
+ghost use Rattle.machine.specs.Meaning.Lent.{lentOf, leftOf};
 ghost use Rattle.engine.specs.Meaning.Maps.{roomOf, MapsAlike, MapsAlignable};
 ghost use Rattle.engine.specs.Meaning.Pairs.{StateFault, FindsTrace, FindsList};
 ghost use Rattle.engine.specs.Working.Clearing.{Emptied};
@@ -38,7 +38,7 @@ pub fn map_alike(
     reach: &mut [u16],
     mark: &mut [u8],
 ) -> MappedAlike
-    ensures { λ r. ⌜ MapsAlike (tables sizes (now («old_next» .entry)) (now («old_out» .entry)) (now («new_next» .entry)) (now («new_out» .entry))) (lent (length (now (depth .entry))) (length (now (reach .entry))) (length (now (mark .entry)))) (left (now (depth .exit)) (now (reach .exit)) (now (mark .exit))) r ⌝ }
+    ensures { λ r. ⌜ MapsAlike (bothTables sizes (now («old_next» .entry)) (now («old_out» .entry)) (now («new_next» .entry)) (now («new_out» .entry))) (lentOf (length (now (depth .entry))) (length (now (reach .entry))) (length (now (mark .entry)))) (leftOf (now (depth .exit)) (now (reach .exit)) (now (mark .exit))) r ⌝ }
 {
     let n = open_map(
         old_next,
@@ -76,7 +76,7 @@ pub fn map_alignable(
     reach: &mut [u16],
     mark: &mut [u8],
 ) -> MappedAlignable
-    ensures { λ r. ⌜ MapsAlignable (tables sizes (now («old_next» .entry)) (now («old_out» .entry)) (now («new_next» .entry)) (now («new_out» .entry))) (lent (length (now (depth .entry))) (length (now (reach .entry))) (length (now (mark .entry)))) (left (now (depth .exit)) (now (reach .exit)) (now (mark .exit))) r ⌝ }
+    ensures { λ r. ⌜ MapsAlignable (bothTables sizes (now («old_next» .entry)) (now («old_out» .entry)) (now («new_next» .entry)) (now («new_out» .entry))) (lentOf (length (now (depth .entry))) (length (now (reach .entry))) (length (now (mark .entry)))) (leftOf (now (depth .exit)) (now (reach .exit)) (now (mark .exit))) r ⌝ }
 {
     let n = open_map(
         old_next,
@@ -115,7 +115,7 @@ pub fn trace_of(
     reach: &mut [u16],
     list: &mut [u8],
 ) -> Found
-    ensures { λ r. ⌜ FindsTrace (tables sizes (now («old_next» .entry)) (now («old_out» .entry)) (now («new_next» .entry)) (now («new_out» .entry))) (lent (length (now (depth .entry))) (length (now (reach .entry))) (length (now (list .entry)))) pair (left (now (depth .exit)) (now (reach .exit)) (now (list .exit))) r ⌝ }
+    ensures { λ r. ⌜ FindsTrace (bothTables sizes (now («old_next» .entry)) (now («old_out» .entry)) (now («new_next» .entry)) (now («new_out» .entry))) (lentOf (length (now (depth .entry))) (length (now (reach .entry))) (length (now (list .entry)))) pair (leftOf (now (depth .exit)) (now (reach .exit)) (now (list .exit))) r ⌝ }
 {
     let n = open_pair(
         old_next,
@@ -155,7 +155,7 @@ pub fn list_of(
     reach: &mut [u16],
     list: &mut [u8],
 ) -> Found
-    ensures { λ r. ⌜ FindsList (tables sizes (now («old_next» .entry)) (now («old_out» .entry)) (now («new_next» .entry)) (now («new_out» .entry))) (lent (length (now (depth .entry))) (length (now (reach .entry))) (length (now (list .entry)))) pair (left (now (depth .exit)) (now (reach .exit)) (now (list .exit))) r ⌝ }
+    ensures { λ r. ⌜ FindsList (bothTables sizes (now («old_next» .entry)) (now («old_out» .entry)) (now («new_next» .entry)) (now («new_out» .entry))) (lentOf (length (now (depth .entry))) (length (now (reach .entry))) (length (now (list .entry)))) pair (leftOf (now (depth .exit)) (now (reach .exit)) (now (list .exit))) r ⌝ }
 {
     let n = open_pair(
         old_next,
@@ -195,8 +195,8 @@ fn open_map(
     reach: &mut [u16],
     mark: &mut [u8],
 ) -> u8
-    ensures { λ r. ⌜ LowestOrNone (Fault (tables sizes (now («old_next» .entry)) (now («old_out» .entry)) (now («new_next» .entry)) (now («new_out» .entry))) (roomOf (lent (length (now (depth .entry))) (length (now (reach .entry))) (length (now (mark .entry)))))) r ⌝ }
-    ensures { λ r. ⌜ Emptied (lent (length (now (depth .entry))) (length (now (reach .entry))) (length (now (mark .entry)))) (left (now (depth .exit)) (now (reach .exit)) (now (mark .exit))) ⌝ }
+    ensures { λ r. ⌜ LowestOrNone (TablesFault (bothTables sizes (now («old_next» .entry)) (now («old_out» .entry)) (now («new_next» .entry)) (now («new_out» .entry))) (roomOf (lentOf (length (now (depth .entry))) (length (now (reach .entry))) (length (now (mark .entry)))))) r ⌝ }
+    ensures { λ r. ⌜ Emptied (lentOf (length (now (depth .entry))) (length (now (reach .entry))) (length (now (mark .entry)))) (leftOf (now (depth .exit)) (now (reach .exit)) (now (mark .exit))) ⌝ }
 {
     let room = memory::shorter(mark.len(), memory::shorter(depth.len(), reach.len()));
     let n = seek::call_fault(old_next, old_out, new_next, new_out, sizes, room);
@@ -216,8 +216,8 @@ fn open_pair(
     reach: &mut [u16],
     list: &mut [u8],
 ) -> u8
-    ensures { λ r. ⌜ LowestOrNone (StateFault (tables sizes (now («old_next» .entry)) (now («old_out» .entry)) (now («new_next» .entry)) (now («new_out» .entry))) (min (length (now (depth .entry))) (length (now (reach .entry)))) pair) r ⌝ }
-    ensures { λ r. ⌜ Emptied (lent (length (now (depth .entry))) (length (now (reach .entry))) (length (now (list .entry)))) (left (now (depth .exit)) (now (reach .exit)) (now (list .exit))) ⌝ }
+    ensures { λ r. ⌜ LowestOrNone (StateFault (bothTables sizes (now («old_next» .entry)) (now («old_out» .entry)) (now («new_next» .entry)) (now («new_out» .entry))) (min (length (now (depth .entry))) (length (now (reach .entry)))) pair) r ⌝ }
+    ensures { λ r. ⌜ Emptied (lentOf (length (now (depth .entry))) (length (now (reach .entry))) (length (now (list .entry)))) (leftOf (now (depth .exit)) (now (reach .exit)) (now (list .exit))) ⌝ }
 {
     let room = memory::shorter(depth.len(), reach.len());
     let n = pair_fault(old_next, old_out, new_next, new_out, sizes, pair, room);
@@ -227,19 +227,10 @@ fn open_pair(
 
 // Every lent slice becomes 0 throughout.
 fn clear_lent(depth: &mut [u16], reach: &mut [u16], written: &mut [u8])
-    ensures { λ _. ⌜ Emptied (lent (length (now (depth .entry))) (length (now (reach .entry))) (length (now (written .entry)))) (left (now (depth .exit)) (now (reach .exit)) (now (written .exit))) ⌝ }
+    ensures { λ _. ⌜ Emptied (lentOf (length (now (depth .entry))) (length (now (reach .entry))) (length (now (written .entry)))) (leftOf (now (depth .exit)) (now (reach .exit)) (now (written .exit))) ⌝ }
 {
-    clear_scratch(depth, reach);
+    memory::clear_scratch(depth, reach);
     memory::clear_bytes(written);
-}
-
-// Both scratch slices become 0 throughout.
-fn clear_scratch(depth: &mut [u16], reach: &mut [u16])
-    ensures { λ _. ⌜ Cleared (length (now (depth .entry))) (now (depth .exit)) ⌝ }
-    ensures { λ _. ⌜ Cleared (length (now (reach .entry))) (now (reach .exit)) ⌝ }
-{
-    memory::clear_numbers(depth);
-    memory::clear_numbers(reach);
 }
 
 // Marks the alike pairs in a cleared mark slice, and clears scratch.
@@ -253,15 +244,15 @@ fn mark_alike(
     reach: &mut [u16],
     mark: &mut [u8],
 ) -> MappedAlike
-    requires { ⌜ Free (Fault (tables sizes (now «old_next») (now «old_out») (now «new_next») (now «new_out»)) (roomOf (lent (length (now depth)) (length (now reach)) (length (now mark))))) ⌝ }
+    requires { ⌜ Free (TablesFault (bothTables sizes (now «old_next») (now «old_out») (now «new_next») (now «new_out»)) (roomOf (lentOf (length (now depth)) (length (now reach)) (length (now mark))))) ⌝ }
     requires { ⌜ Zero (now mark) ⌝ }
-    ensures { λ r. ⌜ MapsAlike (tables sizes (now («old_next» .entry)) (now («old_out» .entry)) (now («new_next» .entry)) (now («new_out» .entry))) (lent (length (now (depth .entry))) (length (now (reach .entry))) (length (now (mark .entry)))) (left (now (depth .exit)) (now (reach .exit)) (now (mark .exit))) r ⌝ }
+    ensures { λ r. ⌜ MapsAlike (bothTables sizes (now («old_next» .entry)) (now («old_out» .entry)) (now («new_next» .entry)) (now («new_out» .entry))) (lentOf (length (now (depth .entry))) (length (now (reach .entry))) (length (now (mark .entry)))) (leftOf (now (depth .exit)) (now (reach .exit)) (now (mark .exit))) r ⌝ }
 {
     let round = seek::map_apart(old_next, old_out, new_next, new_out, sizes, depth);
     let end = search::total(sizes);
     search::aligned_start(depth, end, reach);
     let count = search::mark_positive(reach, end, mark);
-    clear_scratch(depth, reach);
+    memory::clear_scratch(depth, reach);
     MappedAlike::Marked { count, round }
 }
 
@@ -276,14 +267,14 @@ fn mark_alignable(
     reach: &mut [u16],
     mark: &mut [u8],
 ) -> MappedAlignable
-    requires { ⌜ Free (Fault (tables sizes (now «old_next») (now «old_out») (now «new_next») (now «new_out»)) (roomOf (lent (length (now depth)) (length (now reach)) (length (now mark))))) ⌝ }
+    requires { ⌜ Free (TablesFault (bothTables sizes (now «old_next») (now «old_out») (now «new_next») (now «new_out»)) (roomOf (lentOf (length (now depth)) (length (now reach)) (length (now mark))))) ⌝ }
     requires { ⌜ Zero (now mark) ⌝ }
-    ensures { λ r. ⌜ MapsAlignable (tables sizes (now («old_next» .entry)) (now («old_out» .entry)) (now («new_next» .entry)) (now («new_out» .entry))) (lent (length (now (depth .entry))) (length (now (reach .entry))) (length (now (mark .entry)))) (left (now (depth .exit)) (now (reach .exit)) (now (mark .exit))) r ⌝ }
+    ensures { λ r. ⌜ MapsAlignable (bothTables sizes (now («old_next» .entry)) (now («old_out» .entry)) (now («new_next» .entry)) (now («new_out» .entry))) (lentOf (length (now (depth .entry))) (length (now (reach .entry))) (length (now (mark .entry)))) (leftOf (now (depth .exit)) (now (reach .exit)) (now (mark .exit))) r ⌝ }
 {
     seek::map_both(old_next, old_out, new_next, new_out, sizes, depth, reach);
     let end = search::total(sizes);
     let count = search::mark_positive(reach, end, mark);
-    clear_scratch(depth, reach);
+    memory::clear_scratch(depth, reach);
     MappedAlignable::Marked(count)
 }
 
@@ -297,7 +288,7 @@ fn pair_fault(
     pair: Pair,
     room: usize,
 ) -> u8
-    ensures { λ r. ⌜ LowestOrNone (StateFault (tables sizes (now («old_next» .entry)) (now («old_out» .entry)) (now («new_next» .entry)) (now («new_out» .entry))) room pair) r ⌝ }
+    ensures { λ r. ⌜ LowestOrNone (StateFault (bothTables sizes (now («old_next» .entry)) (now («old_out» .entry)) (now («new_next» .entry)) (now («new_out» .entry))) room pair) r ⌝ }
 {
     let n = seek::call_fault(old_next, old_out, new_next, new_out, sizes, room);
     if n != 0 {
@@ -323,10 +314,10 @@ fn write_trace(
     depth: &mut [u16],
     list: &mut [u8],
 ) -> Found
-    requires { ⌜ Good (tables sizes (now «old_next») (now «old_out») (now «new_next») (now «new_out»)) ⌝ }
+    requires { ⌜ Good (bothTables sizes (now «old_next») (now «old_out») (now «new_next») (now «new_out»)) ⌝ }
     requires { ⌜ pairs sizes ≤ length (now depth) ⌝ }
     requires { ⌜ In sizes pair ⌝ }
-    ensures { λ r. ⌜ Outcome (AlikeIn (tables sizes (now («old_next» .entry)) (now («old_out» .entry)) (now («new_next» .entry)) (now («new_out» .entry))) pair) (TraceIn (tables sizes (now («old_next» .entry)) (now («old_out» .entry)) (now («new_next» .entry)) (now («new_out» .entry))) pair) (now (list .entry)) (now (list .exit)) r ⌝ }
+    ensures { λ r. ⌜ Outcome (AlikeIn (bothTables sizes (now («old_next» .entry)) (now («old_out» .entry)) (now («new_next» .entry)) (now («new_out» .entry))) pair) (TraceIn (bothTables sizes (now («old_next» .entry)) (now («old_out» .entry)) (now («new_next» .entry)) (now («new_out» .entry))) pair) (now (list .entry)) (now (list .exit)) r ⌝ }
     ensures { λ r. ⌜ Cleared (length (now (depth .entry))) (now (depth .exit)) ⌝ }
 {
     seek::map_apart(old_next, old_out, new_next, new_out, sizes, depth);
@@ -356,10 +347,10 @@ fn write_list(
     reach: &mut [u16],
     list: &mut [u8],
 ) -> Found
-    requires { ⌜ Good (tables sizes (now «old_next») (now «old_out») (now «new_next») (now «new_out»)) ⌝ }
+    requires { ⌜ Good (bothTables sizes (now «old_next») (now «old_out») (now «new_next») (now «new_out»)) ⌝ }
     requires { ⌜ (pairs sizes ≤ length (now depth)) × (pairs sizes ≤ length (now reach)) ⌝ }
     requires { ⌜ In sizes pair ⌝ }
-    ensures { λ r. ⌜ Outcome (AlignableIn (tables sizes (now («old_next» .entry)) (now («old_out» .entry)) (now («new_next» .entry)) (now («new_out» .entry))) pair → ⊥) (ListIn (tables sizes (now («old_next» .entry)) (now («old_out» .entry)) (now («new_next» .entry)) (now («new_out» .entry))) pair) (now (list .entry)) (now (list .exit)) r ⌝ }
+    ensures { λ r. ⌜ Outcome (AlignableIn (bothTables sizes (now («old_next» .entry)) (now («old_out» .entry)) (now («new_next» .entry)) (now («new_out» .entry))) pair → ⊥) (ListIn (bothTables sizes (now («old_next» .entry)) (now («old_out» .entry)) (now («new_next» .entry)) (now («new_out» .entry))) pair) (now (list .entry)) (now (list .exit)) r ⌝ }
     ensures { λ r. ⌜ Cleared (length (now (depth .entry))) (now (depth .exit)) ⌝ }
     ensures { λ r. ⌜ Cleared (length (now (reach .entry))) (now (reach .exit)) ⌝ }
 {
@@ -374,6 +365,6 @@ fn write_list(
         reach,
         list,
     );
-    clear_scratch(depth, reach);
+    memory::clear_scratch(depth, reach);
     found
 }

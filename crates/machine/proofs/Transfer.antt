@@ -10,7 +10,7 @@ use Rattle.machine.specs.Meaning.Lists.{Each, run, Leads}
 use Rattle.machine.specs.Meaning.Machine.{Machine, step, SameOut, Alike, Alignable, Shows, IsTrace, IsList}
 use Rattle.machine.specs.Meaning.Rounds.{EqualOutputs, A, B, FirstUnchanged}
 use Rattle.machine.specs.Meaning.Tables.{In, Ok}
-use Rattle.machine.specs.Meaning.Verdict.{May, LowestOpen, Rounds, done, more, LowestApart, AllAlign, IsSame, IsApart, Written, same, apart}
+use Rattle.machine.specs.Meaning.Verdict.{May, LowestOpen, Rounds, done, more, LowestApart, AllAlign, IsSame, IsApart, VerdictList, same, apart}
 use Rattle.machine.specs.Working.Pairs.{Closed, SameMachine, SameSteps}
 use Rattle.machine.proofs.Lists.{each-append, run-in}
 use Rattle.machine.proofs.Numbers.{same-pair}
@@ -120,6 +120,6 @@ module _ {z : Sizes} {m0 m1 n0 n1 : Machine} (e : SameSteps z m0 m1 n0 n1) where
   pub is-apart-there : (p : Pair) (l : List ℕ) → IsApart m0 m1 z p l → IsApart n0 n1 z p l
   is-apart-there p l a = record { lowest = apart-there e p (a .lowest); trace = trace-there p l (a .lowest .inside) (a .trace) }
 
-  pub written-there : (l : List ℕ) → Written m0 m1 z l → Written n0 n1 z l
+  pub written-there : (l : List ℕ) → VerdictList m0 m1 z l → VerdictList n0 n1 z l
   written-there l (same s) = same (same-there l s)
   written-there l (apart p a) = apart p (is-apart-there p l a)

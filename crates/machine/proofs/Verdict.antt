@@ -12,7 +12,7 @@ use Rattle.machine.specs.declared.Sizes.{Sizes}
 use Rattle.machine.specs.Meaning.Lists.{Each, run, Leads}
 use Rattle.machine.specs.Meaning.Machine.{Machine, step, Alike, IsTrace}
 use Rattle.machine.specs.Meaning.Tables.{number, In, Ok}
-use Rattle.machine.specs.Meaning.Verdict.{May, LowestOpen, Rounds, done, more, LowestApart, IsSame, IsApart, Written, same, apart}
+use Rattle.machine.specs.Meaning.Verdict.{May, LowestOpen, Rounds, done, more, LowestApart, IsSame, IsApart, VerdictList, same, apart}
 use Rattle.machine.specs.Working.Pairs.{Closed}
 use Rattle.machine.proofs.Order.{first-unique}
 use Rattle.machine.proofs.Lists.{each-append, run-in}
@@ -73,7 +73,7 @@ module _ (m0 m1 : Machine) (z : Sizes) where
   trace-unique p q a b x y = first-unique (x .trace) (subst (λ (k : Pair). IsTrace m0 m1 (Ok z) k b) (sym (apart-unique p q (x .lowest) (y .lowest))) (y .trace))
 
   -- what is written is one list
-  pub written-unique : Closed m0 m1 z → (a b : List ℕ) → Written m0 m1 z a → Written m0 m1 z b → a ≡ b
+  pub written-unique : Closed m0 m1 z → (a b : List ℕ) → VerdictList m0 m1 z a → VerdictList m0 m1 z b → a ≡ b
   written-unique closed a b (same x) (same y) = same-unique closed a b x y
   written-unique closed a b (same x) (apart q y) = absurd (same-not-apart a b q x y)
   written-unique closed a b (apart p x) (same y) = absurd (same-not-apart b a p y x)

@@ -12,7 +12,7 @@ use Rattle.machine.specs.declared.Sizes.{Sizes}
 use Rattle.machine.specs.Meaning.Lists.{Leads}
 use Rattle.machine.specs.Meaning.Machine.{Machine, step, Alike, Alignable}
 use Rattle.machine.specs.Meaning.Tables.{pairs, number, In, Ok}
-use Rattle.machine.specs.Meaning.Verdict.{LowestApart, AllAlign, IsSame, Written, same, apart}
+use Rattle.machine.specs.Meaning.Verdict.{LowestApart, AllAlign, IsSame, VerdictList, same, apart}
 use Rattle.machine.specs.Working.Maps.{Complete}
 use Rattle.machine.specs.Working.Pairs.{pairAt, Closed}
 use Rattle.machine.proofs.Pairs.{alike-alignable}
@@ -47,8 +47,8 @@ module _ (m0 m1 : Machine) (z : Sizes) (closed : Closed m0 m1 z) where
           }
 
   -- so there is always a list to write
-  pub written-exists : (l : List ℕ) × Written m0 m1 z l
+  pub written-exists : (l : List ℕ) × VerdictList m0 m1 z l
   written-exists = ⊎-elim (λ all. let s = same-exists all in (s .0, same (s .1))) (λ q. of (q .0) (q .1)) all-or-apart
     where
-      of : (p : Pair) → LowestApart m0 m1 z p → (l : List ℕ) × Written m0 m1 z l
+      of : (p : Pair) → LowestApart m0 m1 z p → (l : List ℕ) × VerdictList m0 m1 z l
       of p w = let t = trace-exists m0 m1 z closed p (w .inside) (λ a. w .apart (alike-alignable m0 m1 (Ok z) p a)) in (t .0, apart p (record { lowest = w; trace = t .1 }))

@@ -3,4 +3,6 @@ pub mod Lists
 pub mod Machine
 pub mod Rounds
 pub mod Tables
+pub mod Lent
+pub mod Faults
 pub mod Verdict

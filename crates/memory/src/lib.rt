@@ -27,6 +27,15 @@ pub fn clear_numbers(numbers: &mut [u16])
     }
 }
 
+// Both scratch slices become 0 throughout.
+pub fn clear_scratch(depth: &mut [u16], reach: &mut [u16])
+    ensures { λ _. ⌜ Cleared (length (now (depth .entry))) (now (depth .exit)) ⌝ }
+    ensures { λ _. ⌜ Cleared (length (now (reach .entry))) (now (reach .exit)) ⌝ }
+{
+    clear_numbers(depth);
+    clear_numbers(reach);
+}
+
 // The shorter of two lengths.
 pub fn shorter(one: usize, other: usize) -> usize
     ensures { λ r. ⌜ r ≡ min one other ⌝ }

@@ -7,7 +7,7 @@ ghost use lib.ListN.{getD};
 ghost use Rattle.memory.specs.Meaning.Refusals.{LowestOrNone};
 ghost use Rattle.netlist.specs.Meaning.Gates.{kindOf, firstOf, secondOf};
 ghost use Rattle.netlist.specs.Meaning.Faults.{DesignFault};
-ghost use Rattle.netlist.specs.Meaning.Limits.{mostInputs, mostLatches, mostOutputs, mostCells, mostBytes};
+ghost use Rattle.netlist.specs.Meaning.Limits.{AreLimits};
 
 // The image format: its limits and the widths of its fields, named once.
 pub struct Image {}
@@ -52,7 +52,7 @@ impl Image {
 
     // The limits as numbers, so that what is believed of the format and the constants are held to each other.
     pub fn limits() -> Limits
-        ensures { λ r. ⌜ (r .inputs ≡ mostInputs) × (r .latches ≡ mostLatches) × (r .outputs ≡ mostOutputs) × (r .cells ≡ mostCells) × (r .bytes ≡ mostBytes) ⌝ }
+        ensures { λ r. ⌜ AreLimits r ⌝ }
     {
         Limits {
             inputs: Image::MOST_INPUTS,

@@ -6,7 +6,7 @@ mod steps;
 
 ghost use Prim.Native.Nat.{_+_, _*_, _≤_};
 ghost use lib.ListN.{length, take};
-ghost use Rattle.machine.specs.Meaning.Tables.{tables};
+ghost use Rattle.machine.specs.Meaning.Tables.{bothTables};
 ghost use Rattle.report.specs.Meaning.Text.{refusalText, sameText, apartIn, Printed};
 ghost use Rattle.report.specs.Working.Put.{Small};
 use machine::Pair;
@@ -70,7 +70,7 @@ pub fn put_apart(
     requires { ⌜ Small sizes p ⌝ }
     requires { ⌜ n ≤ length (now list) ⌝ }
     requires { ⌜ 400 + 12 * n ≤ length (now text) ⌝ }
-    ensures { λ r. ⌜ Printed (apartIn (tables sizes (now («old_next» .entry)) (now («old_out» .entry)) (now («new_next» .entry)) (now («new_out» .entry))) facts p (take n (now (list .entry)))) (now (text .exit)) r ⌝ }
+    ensures { λ r. ⌜ Printed (apartIn (bothTables sizes (now («old_next» .entry)) (now («old_out» .entry)) (now («new_next» .entry)) (now («new_out» .entry))) facts p (take n (now (list .entry)))) (now (text .exit)) r ⌝ }
 {
     let head = lines::put_head(facts, text);
     let at = lines::put_pair(p, n, text, head);

@@ -2,9 +2,9 @@
 ghost use Prim.Native.Nat.{_+_, _*_, _<_, _≤_};
 ghost use mathlib.Core.Path.{_≡_};
 ghost use lib.ListN.{length, take};
-ghost use Rattle.machine.specs.Meaning.Tables.{entry, tables};
+ghost use Rattle.machine.specs.Meaning.Tables.{entry, bothTables};
 ghost use Rattle.search.specs.Working.{move};
-ghost use Rattle.report.specs.Meaning.Text.{shownIn};
+ghost use Rattle.report.specs.Working.Put.{shownIn};
 ghost use Rattle.report.specs.Working.Put.{Put, Small};
 use crate::lines;
 use crate::pieces;
@@ -27,7 +27,7 @@ pub fn put_steps(
     requires { ⌜ Small sizes p ⌝ }
     requires { ⌜ n ≤ length (now list) ⌝ }
     requires { ⌜ at + (12 * n + 51) ≤ length (now text) ⌝ }
-    ensures { λ r. ⌜ Put (12 * n) (shownIn (tables sizes (now («old_next» .entry)) (now («old_out» .entry)) (now («new_next» .entry)) (now («new_out» .entry))) p (take n (now (list .entry)))) at (now (text .entry)) (now (text .exit)) r ⌝ }
+    ensures { λ r. ⌜ Put (12 * n) (shownIn (bothTables sizes (now («old_next» .entry)) (now («old_out» .entry)) (now («new_next» .entry)) (now («new_out» .entry))) p (take n (now (list .entry)))) at (now (text .entry)) (now (text .exit)) r ⌝ }
 {
     let mut q = p;
     let mut end = at;

@@ -10,7 +10,7 @@ use Rattle.memory.proofs.Refusals.{some-number, no-number}
 use Rattle.machine.specs.declared.Sizes.{Sizes}
 use Rattle.machine.specs.Meaning.Tables.{Tables, pairs}
 use Rattle.search.specs.Working.{Few}
-use Rattle.seek.specs.Meaning.Faults.{OutOfRange, TooShort, LeadsOut, leads, Fault}
+use Rattle.machine.specs.Meaning.Faults.{OutOfRange, TooShort, LeadsOut, leads, TablesFault}
 use Rattle.seek.specs.Working.Steps.{InRange, LongEnough, Stays, Good}
 
 range-no : {z : Sizes} → InRange z → OutOfRange z → ⊥
@@ -32,63 +32,63 @@ stays-no : {s v : ℕ} {n : List ℕ} → Stays s v n → LeadsOut s v n → ⊥
 stays-no r (leads i h l) = not-lt l (r .stays i h)
 
 module _ {t : Tables} {room : ℕ} where
-  pub fault-some : {m : ℕ} → Fault t room m → 11 ≤ m
-  fault-some (Fault.range o) = omega arith
-  fault-some (Fault.short o) = omega arith
-  fault-some (Fault.old-leads o) = omega arith
-  fault-some (Fault.new-leads o) = omega arith
+  pub fault-some : {m : ℕ} → TablesFault t room m → 11 ≤ m
+  fault-some (TablesFault.range o) = omega arith
+  fault-some (TablesFault.short o) = omega arith
+  fault-some (TablesFault.old-leads o) = omega arith
+  fault-some (TablesFault.new-leads o) = omega arith
 
-  pub fault-most : {m : ℕ} → Fault t room m → m ≤ 13
-  fault-most (Fault.range o) = omega arith
-  fault-most (Fault.short o) = omega arith
-  fault-most (Fault.old-leads o) = omega arith
-  fault-most (Fault.new-leads o) = omega arith
+  pub fault-most : {m : ℕ} → TablesFault t room m → m ≤ 13
+  fault-most (TablesFault.range o) = omega arith
+  fault-most (TablesFault.short o) = omega arith
+  fault-most (TablesFault.old-leads o) = omega arith
+  fault-most (TablesFault.new-leads o) = omega arith
 
-  past-11 : InRange (t .sizes) → {m : ℕ} → Fault t room m → 12 ≤ m
-  past-11 r (Fault.range o) = absurd (range-no r o)
-  past-11 r (Fault.short o) = omega arith
-  past-11 r (Fault.old-leads o) = omega arith
-  past-11 r (Fault.new-leads o) = omega arith
+  past-11 : InRange (t .sizes) → {m : ℕ} → TablesFault t room m → 12 ≤ m
+  past-11 r (TablesFault.range o) = absurd (range-no r o)
+  past-11 r (TablesFault.short o) = omega arith
+  past-11 r (TablesFault.old-leads o) = omega arith
+  past-11 r (TablesFault.new-leads o) = omega arith
 
-  past-12 : InRange (t .sizes) → LongEnough t room → {m : ℕ} → Fault t room m → 13 ≤ m
-  past-12 r l (Fault.range o) = absurd (range-no r o)
-  past-12 r l (Fault.short o) = absurd (long-no l o)
-  past-12 r l (Fault.old-leads o) = omega arith
-  past-12 r l (Fault.new-leads o) = omega arith
+  past-12 : InRange (t .sizes) → LongEnough t room → {m : ℕ} → TablesFault t room m → 13 ≤ m
+  past-12 r l (TablesFault.range o) = absurd (range-no r o)
+  past-12 r l (TablesFault.short o) = absurd (long-no l o)
+  past-12 r l (TablesFault.old-leads o) = omega arith
+  past-12 r l (TablesFault.new-leads o) = omega arith
 
   -- n applies, and what applies is at least n
-  lowest : {n : ℕ} → 0 < n → Fault t room n → ((m : ℕ) → Fault t room m → n ≤ m) → LowestOrNone (Fault t room) n
+  lowest : {n : ℕ} → 0 < n → TablesFault t room n → ((m : ℕ) → TablesFault t room m → n ≤ m) → LowestOrNone (TablesFault t room) n
   lowest p f past = some-number (λ e. omega arith) (record { applies = f; lower = λ m h g. not-lt (past m g) h })
 
-  pub at-11 : OutOfRange (t .sizes) → LowestOrNone (Fault t room) 11
-  at-11 o = lowest (omega arith) (Fault.range o) (λ m f. fault-some f)
+  pub at-11 : OutOfRange (t .sizes) → LowestOrNone (TablesFault t room) 11
+  at-11 o = lowest (omega arith) (TablesFault.range o) (λ m f. fault-some f)
 
-  pub at-12 : InRange (t .sizes) → TooShort t room → LowestOrNone (Fault t room) 12
-  at-12 r o = lowest (omega arith) (Fault.short o) (λ m f. past-11 r f)
+  pub at-12 : InRange (t .sizes) → TooShort t room → LowestOrNone (TablesFault t room) 12
+  at-12 r o = lowest (omega arith) (TablesFault.short o) (λ m f. past-11 r f)
 
-  pub at-13 : InRange (t .sizes) → LongEnough t room → Fault t room 13 → LowestOrNone (Fault t room) 13
+  pub at-13 : InRange (t .sizes) → LongEnough t room → TablesFault t room 13 → LowestOrNone (TablesFault t room) 13
   at-13 r l o = lowest (omega arith) o (λ m f. past-12 r l f)
 
-  pub at-none : InRange (t .sizes) → LongEnough t room → Stays (t .sizes .old) (t .sizes .vectors) (t .old-next) → Stays (t .sizes .new) (t .sizes .vectors) (t .new-next) → LowestOrNone (Fault t room) 0
+  pub at-none : InRange (t .sizes) → LongEnough t room → Stays (t .sizes .old) (t .sizes .vectors) (t .old-next) → Stays (t .sizes .new) (t .sizes .vectors) (t .new-next) → LowestOrNone (TablesFault t room) 0
   at-none r l a b = no-number (λ m f. go f)
     where
-      go : {m : ℕ} → Fault t room m → ⊥
-      go (Fault.range o) = range-no r o
-      go (Fault.short o) = long-no l o
-      go (Fault.old-leads o) = stays-no a o
-      go (Fault.new-leads o) = stays-no b o
+      go : {m : ℕ} → TablesFault t room m → ⊥
+      go (TablesFault.range o) = range-no r o
+      go (TablesFault.short o) = long-no l o
+      go (TablesFault.old-leads o) = stays-no a o
+      go (TablesFault.new-leads o) = stays-no b o
 
   -- a call to which no number applies
-  module _ (none : Free (Fault t room)) where
+  module _ (none : Free (TablesFault t room)) where
     few : Few (t .sizes)
     few = record {
-      few-old = le-of-not-lt (λ h. none 11 (Fault.range (OutOfRange.old-many h)));
-      few-new = le-of-not-lt (λ h. none 11 (Fault.range (OutOfRange.new-many h)));
-      few-vectors = le-of-not-lt (λ h. none 11 (Fault.range (OutOfRange.vectors-many h)));
+      few-old = le-of-not-lt (λ h. none 11 (TablesFault.range (OutOfRange.old-many h)));
+      few-new = le-of-not-lt (λ h. none 11 (TablesFault.range (OutOfRange.new-many h)));
+      few-vectors = le-of-not-lt (λ h. none 11 (TablesFault.range (OutOfRange.vectors-many h)));
     }
 
     pub room-enough : pairs (t .sizes) ≤ room
-    room-enough = le-of-not-lt (λ h. none 12 (Fault.short (TooShort.lent h)))
+    room-enough = le-of-not-lt (λ h. none 12 (TablesFault.short (TooShort.lent h)))
 
     stays : {s v : ℕ} {n : List ℕ} → (LeadsOut s v n → ⊥) → (i : ℕ) → i < s * v → getD n i 0 < s
     stays {s} {v} {n} f i h = go (decLt (getD n i 0) s)
@@ -101,14 +101,14 @@ module _ {t : Tables} {room : ℕ} where
     good = record {
       nexts = record {
         few = few;
-        long-old = le-of-not-lt (λ h. none 12 (Fault.short (TooShort.old-next h)));
-        long-new = le-of-not-lt (λ h. none 12 (Fault.short (TooShort.new-next h)));
-        next-old = stays (λ o. none 13 (Fault.old-leads o));
-        next-new = stays (λ o. none 13 (Fault.new-leads o));
+        long-old = le-of-not-lt (λ h. none 12 (TablesFault.short (TooShort.old-next h)));
+        long-new = le-of-not-lt (λ h. none 12 (TablesFault.short (TooShort.new-next h)));
+        next-old = stays (λ o. none 13 (TablesFault.old-leads o));
+        next-new = stays (λ o. none 13 (TablesFault.new-leads o));
       };
       outs = record {
         few = few;
-        long-old = le-of-not-lt (λ h. none 12 (Fault.short (TooShort.old-out h)));
-        long-new = le-of-not-lt (λ h. none 12 (Fault.short (TooShort.new-out h)));
+        long-old = le-of-not-lt (λ h. none 12 (TablesFault.short (TooShort.old-out h)));
+        long-new = le-of-not-lt (λ h. none 12 (TablesFault.short (TooShort.new-out h)));
       };
     }

@@ -4,9 +4,9 @@ ghost use Prim.Native.Nat.{_*_, _≤_};
 ghost use lib.ListN.{length};
 ghost use Rattle.memory.specs.Meaning.Refusals.{LowestOrNone};
 ghost use Rattle.memory.specs.Working.Tests.{Splits};
-ghost use Rattle.machine.specs.Meaning.Tables.{tables, pairs, In, AlikeIn, AlignableIn, TraceIn, ListIn};
+ghost use Rattle.machine.specs.Meaning.Tables.{bothTables, pairs, In, AlikeIn, AlignableIn, TraceIn, ListIn};
 ghost use Rattle.machine.specs.Working.Pairs.{DiffersIn};
-ghost use Rattle.seek.specs.Meaning.Faults.{OutOfRange, TooShort, LeadsOut, Fault};
+ghost use Rattle.machine.specs.Meaning.Faults.{OutOfRange, TooShort, LeadsOut, TablesFault};
 ghost use Rattle.seek.specs.Working.Steps.{InRange, LongEnough, Stays, Good, MapFor, MapOf, Both, Outcome};
 use machine::Found;
 use machine::Pair;
@@ -47,7 +47,7 @@ fn too_short(
     room: usize,
 ) -> bool
     requires { ⌜ InRange sizes ⌝ }
-    ensures { λ r. ⌜ Splits r (TooShort (tables sizes (now («old_next» .entry)) (now («old_out» .entry)) (now («new_next» .entry)) (now («new_out» .entry))) room) (LongEnough (tables sizes (now («old_next» .entry)) (now («old_out» .entry)) (now («new_next» .entry)) (now («new_out» .entry))) room) ⌝ }
+    ensures { λ r. ⌜ Splits r (TooShort (bothTables sizes (now («old_next» .entry)) (now («old_out» .entry)) (now («new_next» .entry)) (now («new_out» .entry))) room) (LongEnough (bothTables sizes (now («old_next» .entry)) (now («old_out» .entry)) (now («new_next» .entry)) (now («new_out» .entry))) room) ⌝ }
 {
     let old = sizes.old * sizes.vectors;
     let new = sizes.new * sizes.vectors;
@@ -96,7 +96,7 @@ pub fn call_fault(
     sizes: Sizes,
     room: usize,
 ) -> u8
-    ensures { λ r. ⌜ LowestOrNone (Fault (tables sizes (now («old_next» .entry)) (now («old_out» .entry)) (now («new_next» .entry)) (now («new_out» .entry))) room) r ⌝ }
+    ensures { λ r. ⌜ LowestOrNone (TablesFault (bothTables sizes (now («old_next» .entry)) (now («old_out» .entry)) (now («new_next» .entry)) (now («new_out» .entry))) room) r ⌝ }
 {
     if out_of_range(sizes) {
         return 11;
@@ -122,9 +122,9 @@ pub fn map_apart(
     sizes: Sizes,
     depth: &mut [u16],
 ) -> usize
-    requires { ⌜ Good (tables sizes (now «old_next») (now «old_out») (now «new_next») (now «new_out»)) ⌝ }
+    requires { ⌜ Good (bothTables sizes (now «old_next») (now «old_out») (now «new_next») (now «new_out»)) ⌝ }
     requires { ⌜ pairs sizes ≤ length (now depth) ⌝ }
-    ensures { λ r. ⌜ MapOf (tables sizes (now («old_next» .entry)) (now («old_out» .entry)) (now («new_next» .entry)) (now («new_out» .entry))) (DiffersIn (tables sizes (now («old_next» .entry)) (now («old_out» .entry)) (now («new_next» .entry)) (now («new_out» .entry)))) (now (depth .exit)) r ⌝ }
+    ensures { λ r. ⌜ MapOf (bothTables sizes (now («old_next» .entry)) (now («old_out» .entry)) (now («new_next» .entry)) (now («new_out» .entry))) (DiffersIn (bothTables sizes (now («old_next» .entry)) (now («old_out» .entry)) (now («new_next» .entry)) (now («new_out» .entry)))) (now (depth .exit)) r ⌝ }
 {
     search::differ(old_out, new_out, sizes, depth);
     search::search(old_next, new_next, sizes, depth)
@@ -140,10 +140,10 @@ pub fn map_both(
     depth: &mut [u16],
     reach: &mut [u16],
 )
-    requires { ⌜ Good (tables sizes (now «old_next») (now «old_out») (now «new_next») (now «new_out»)) ⌝ }
+    requires { ⌜ Good (bothTables sizes (now «old_next») (now «old_out») (now «new_next») (now «new_out»)) ⌝ }
     requires { ⌜ pairs sizes ≤ length (now depth) ⌝ }
     requires { ⌜ pairs sizes ≤ length (now reach) ⌝ }
-    ensures { λ r. ⌜ Both (tables sizes (now («old_next» .entry)) (now («old_out» .entry)) (now («new_next» .entry)) (now («new_out» .entry))) (now (depth .exit)) (now (reach .exit)) ⌝ }
+    ensures { λ r. ⌜ Both (bothTables sizes (now («old_next» .entry)) (now («old_out» .entry)) (now («new_next» .entry)) (now («new_out» .entry))) (now (depth .exit)) (now (reach .exit)) ⌝ }
 {
     map_apart(old_next, old_out, new_next, new_out, sizes, depth);
     let end = search::total(sizes);
@@ -162,11 +162,11 @@ pub fn find_trace(
     depth: &[u16],
     list: &mut [u8],
 ) -> Found
-    requires { ⌜ Good (tables sizes (now «old_next») (now «old_out») (now «new_next») (now «new_out»)) ⌝ }
+    requires { ⌜ Good (bothTables sizes (now «old_next») (now «old_out») (now «new_next») (now «new_out»)) ⌝ }
     requires { ⌜ pairs sizes ≤ length (now depth) ⌝ }
-    requires { ⌜ MapFor (tables sizes (now «old_next») (now «old_out») (now «new_next») (now «new_out»)) (DiffersIn (tables sizes (now «old_next») (now «old_out») (now «new_next») (now «new_out»))) (now depth) ⌝ }
+    requires { ⌜ MapFor (bothTables sizes (now «old_next») (now «old_out») (now «new_next») (now «new_out»)) (DiffersIn (bothTables sizes (now «old_next») (now «old_out») (now «new_next») (now «new_out»))) (now depth) ⌝ }
     requires { ⌜ In sizes p ⌝ }
-    ensures { λ r. ⌜ Outcome (AlikeIn (tables sizes (now («old_next» .entry)) (now («old_out» .entry)) (now («new_next» .entry)) (now («new_out» .entry))) p) (TraceIn (tables sizes (now («old_next» .entry)) (now («old_out» .entry)) (now («new_next» .entry)) (now («new_out» .entry))) p) (now (list .entry)) (now (list .exit)) r ⌝ }
+    ensures { λ r. ⌜ Outcome (AlikeIn (bothTables sizes (now («old_next» .entry)) (now («old_out» .entry)) (now («new_next» .entry)) (now («new_out» .entry))) p) (TraceIn (bothTables sizes (now («old_next» .entry)) (now («old_out» .entry)) (now («new_next» .entry)) (now («new_out» .entry))) p) (now (list .entry)) (now (list .exit)) r ⌝ }
 {
     let steps = search::depth_of(sizes, depth, p);
     if steps == 0 {
@@ -192,11 +192,11 @@ pub fn find_list(
     reach: &[u16],
     list: &mut [u8],
 ) -> Found
-    requires { ⌜ Good (tables sizes (now «old_next») (now «old_out») (now «new_next») (now «new_out»)) ⌝ }
+    requires { ⌜ Good (bothTables sizes (now «old_next») (now «old_out») (now «new_next») (now «new_out»)) ⌝ }
     requires { ⌜ pairs sizes ≤ length (now reach) ⌝ }
-    requires { ⌜ MapFor (tables sizes (now «old_next») (now «old_out») (now «new_next») (now «new_out»)) (AlikeIn (tables sizes (now «old_next») (now «old_out») (now «new_next») (now «new_out»))) (now reach) ⌝ }
+    requires { ⌜ MapFor (bothTables sizes (now «old_next») (now «old_out») (now «new_next») (now «new_out»)) (AlikeIn (bothTables sizes (now «old_next») (now «old_out») (now «new_next») (now «new_out»))) (now reach) ⌝ }
     requires { ⌜ In sizes p ⌝ }
-    ensures { λ r. ⌜ Outcome (AlignableIn (tables sizes (now («old_next» .entry)) (now («old_out» .entry)) (now («new_next» .entry)) (now («new_out» .entry))) p → ⊥) (ListIn (tables sizes (now («old_next» .entry)) (now («old_out» .entry)) (now («new_next» .entry)) (now («new_out» .entry))) p) (now (list .entry)) (now (list .exit)) r ⌝ }
+    ensures { λ r. ⌜ Outcome (AlignableIn (bothTables sizes (now («old_next» .entry)) (now («old_out» .entry)) (now («new_next» .entry)) (now («new_out» .entry))) p → ⊥) (ListIn (bothTables sizes (now («old_next» .entry)) (now («old_out» .entry)) (now («new_next» .entry)) (now («new_out» .entry))) p) (now (list .entry)) (now (list .exit)) r ⌝ }
 {
     let above = search::depth_of(sizes, reach, p);
     if above == 0 {

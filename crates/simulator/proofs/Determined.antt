@@ -17,7 +17,7 @@ use Rattle.netlist.specs.Meaning.Nets.{statesOf, vectorsOf, nextState, outputs}
 use Rattle.simulator.specs.declared.Clocked.{Clocked}
 use Rattle.simulator.specs.declared.Tabulated.{Tabulated}
 use Rattle.simulator.specs.declared.TabulatedBoth.{TabulatedBoth}
-use Rattle.simulator.specs.Meaning.Clock.{Step, clockReply, ClockFault, IsStep, Clocks}
+use Rattle.simulator.specs.Meaning.Clock.{StepValues, clockReply, ClockFault, IsStep, Clocks}
 use Rattle.simulator.specs.Meaning.Tables.{sizeOf, HoldsDesign, TableSizes, BothSizes, tableReply, bothReply, TableFault, BothFault, IsTable, AreTables, ZeroTables, Tabulates, TabulatesBoth}
 
 -- what can be undone gives different results of different things
@@ -25,7 +25,7 @@ injective : {A B : Type 0} (f : A → B) (g : B → A) → ((a : A) → g (f a) 
 injective f g back {a} {b} e = sym (back a) ∙ ap g e ∙ back b
 
 -- a clock
-clocked : Reply Step → Clocked
+clocked : Reply StepValues → Clocked
 clocked (answer a) = Clocked.Step (a .next) (a .out)
 clocked (refusal n) = Clocked.Refused n
 
@@ -38,7 +38,7 @@ pub clock-unique : (d : Design) (s v : ℕ) (r t : Clocked) → Clocks d s v r �
 clock-unique d s v r t p q =
     injective clockReply clocked clocked-back (reply-unique (ClockFault d s v) (IsStep d s v) (Unit {0}) one (clockReply r) (clockReply t) (p .keeps) (q .keeps))
   where
-    one : (a b : Step) → IsStep d s v a → IsStep d s v b → a ≡ b
+    one : (a b : StepValues) → IsStep d s v a → IsStep d s v b → a ≡ b
     one a b x y = ap₂ (λ (n o : ℕ). record { next = n; out = o }) (x .next ∙ sym (y .next)) (x .out ∙ sym (y .out))
 
 -- a table that holds every clock is fixed below its size, and zero beyond

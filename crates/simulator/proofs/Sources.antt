@@ -10,7 +10,7 @@ use Rattle.numbers.specs.Meaning.Bits.{bitOf}
 use Rattle.memory.specs.Working.Filling.{Filled}
 use Rattle.memory.proofs.Filling.{filled-none, filled-more}
 use Rattle.netlist.specs.declared.Design.{Design}
-use Rattle.netlist.specs.Meaning.Limits.{mostNets}
+use Rattle.simulator.specs.Working.Values.{mostNets}
 use Rattle.netlist.specs.Meaning.Nets.{cellBase, source}
 use Rattle.simulator.specs.Working.Values.{Spreads}
 

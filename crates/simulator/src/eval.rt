@@ -7,7 +7,7 @@ ghost use Prim.Native.Nat.{ℕ, _+_, _^_, _<_, _≤_};
 ghost use lib.ListN.{length, getD};
 ghost use Rattle.numbers.specs.Meaning.Bits.{horner};
 ghost use Rattle.memory.specs.Working.Filling.{Filled};
-ghost use Rattle.netlist.specs.Meaning.Limits.{mostNets};
+ghost use Rattle.simulator.specs.Working.Values.{mostNets};
 ghost use Rattle.netlist.specs.Meaning.Gates.{firstOf, secondOf, truth};
 ghost use Rattle.netlist.specs.Meaning.Nets.{cellBase, gateValue, source, value, nextState, outputs};
 ghost use Rattle.netlist.specs.Working.Placing.{Sound};

@@ -15,7 +15,7 @@ use Rattle.machine.specs.declared.Pair.{Pair}
 use Rattle.machine.specs.declared.Sizes.{Sizes}
 use Rattle.machine.specs.Meaning.Machine.{Machine}
 use Rattle.machine.specs.Meaning.Tables.{Tables, number, at, In, oldMachine, newMachine, AlikeIn, AlignableIn, TraceIn}
-use Rattle.machine.specs.Meaning.Verdict.{LowestApart, IsApart, Written}
+use Rattle.machine.specs.Meaning.Verdict.{LowestApart, IsApart, VerdictList}
 use Rattle.machine.specs.Meaning.Verdict as W
 use Rattle.machine.proofs.Pairs.{alike-alignable}
 use Rattle.machine.proofs.Verdict.{written-unique}
@@ -55,13 +55,13 @@ module _ (t : Tables) where
       all-align h = record { all = λ p i. alignable p i (s .rows p i (omega (arith, i .in-old))) }
 
   -- 16 applies where the list is longer than the slice, and nothing where it fits
-  too-long : {n : ℕ} (l : List ℕ) → Written m0 m1 z l → n < length l → Lowest (ShortList m0 m1 z n) 16
+  too-long : {n : ℕ} (l : List ℕ) → VerdictList m0 m1 z l → n < length l → Lowest (ShortList m0 m1 z n) 16
   too-long l w h = record { applies = short l w h; lower = λ k b s. above s b }
     where
       above : {n k : ℕ} → ShortList m0 m1 z n k → k < 16 → ⊥
       above (short l w h) b = omega arith
 
-  fitting : Good t → (list list′ : List ℕ) (n : ℕ) → length list′ ≡ length list → n ≤ length list → Written m0 m1 z (take n list′) → Free (ShortList m0 m1 z (length list))
+  fitting : Good t → (list list′ : List ℕ) (n : ℕ) → length list′ ≡ length list → n ≤ length list → VerdictList m0 m1 z (take n list′) → Free (ShortList m0 m1 z (length list))
   fitting g list list′ n e f w k (short l y h) = omega (arith, ap length (written-unique m0 m1 z (inside t g) l (take n list′) y w), length-take-le n list′ (omega (arith, e)))
 
   -- the answers

@@ -9,17 +9,17 @@ use Rattle.memory.specs.Meaning.Refusals.{Free, LowestOrNone}
 use Rattle.memory.specs.Meaning.Slices.{Zero, Cleared}
 use Rattle.memory.proofs.Refusals.{lowest-first, keeps-second}
 use Rattle.machine.specs.Meaning.Tables.{Tables, pairs, oldMachine, newMachine}
-use Rattle.seek.specs.Meaning.Faults.{Fault}
-use Rattle.seek.specs.Meaning.Lent.{Lent, left}
+use Rattle.machine.specs.Meaning.Faults.{TablesFault}
+use Rattle.machine.specs.Meaning.Lent.{Lent, leftOf}
 use Rattle.seek.specs.Working.Steps.{Good, Both}
 use Rattle.seek.proofs.Refusals.{fault-most, good, room-enough}
 use Rattle.verdict.specs.declared.Verdict.{Verdict}
-use Rattle.verdict.specs.Meaning.Decision.{reply, Decided, ShortList, short}
+use Rattle.verdict.specs.Meaning.Decision.{verdictReply, Decided, ShortList, short}
 use Rattle.verdict.specs.Meaning.Promise.{JudgeFault, call, list, Judges}
 use Rattle.verdict.specs.Working.Marks.{Mapped, Settled}
 
 -- a call that is not turned away: tables and scratch of a and b entries serve for both maps
-module _ {t : Tables} {a b : ℕ} (none : Free (Fault t (min a b))) where
+module _ {t : Tables} {a b : ℕ} (none : Free (TablesFault t (min a b))) where
   pub enough : {n m : ℕ} → n ≡ a → m ≡ b → Good t × ((pairs (t .sizes) ≤ n) × (pairs (t .sizes) ≤ m))
   enough d r = let h = room-enough none in (good none, (omega arith, omega arith))
 
@@ -28,7 +28,7 @@ module _ {t : Tables} {a b : ℕ} (none : Free (Fault t (min a b))) where
 
 module _ (t : Tables) (s : Lent) where
   abbrev Room : ℕ → Type 0
-  Room n = Fault t (min (s .depth) (s .reach)) n
+  Room n = TablesFault t (min (s .depth) (s .reach)) n
 
   abbrev Short : ℕ → Type 0
   Short n = ShortList (oldMachine t) (newMachine t) (t .sizes) (s .written) n
@@ -40,14 +40,14 @@ module _ (t : Tables) (s : Lent) where
   above : {n m : ℕ} → Room n → Short m → n ≤ m
   above f (short l w h) = omega (arith, fault-most f)
 
-  pub judged-refused : {depth reach written : List ℕ} {n : ℕ} → (n ≡ 0 → ⊥) → LowestOrNone (Fault t (min (s .depth) (s .reach))) n → Cleared (s .depth) depth → Cleared (s .reach) reach → Cleared (s .written) written → Judges t s (left depth reach written) (Verdict.Refused n)
+  pub judged-refused : {depth reach written : List ℕ} {n : ℕ} → (n ≡ 0 → ⊥) → LowestOrNone (TablesFault t (min (s .depth) (s .reach))) n → Cleared (s .depth) depth → Cleared (s .reach) reach → Cleared (s .written) written → Judges t s (leftOf depth reach written) (Verdict.Refused n)
   judged-refused z l a b c =
       let f = l .some z in
       record { keeps = (lowest-first Room Short (JudgeFault t s) (λ m x. call x) (λ m x. list x) either f (λ m x. above (f .applies) x), c .zero); tidy = record { depth = a; reach = b; written = c .size } }
 
-  module _ (none : Free (Fault t (min (s .depth) (s .reach)))) where
-    pub judged : {depth reach written : List ℕ} {r : Verdict} → {d n w : ℕ} → Settled t w written r → Cleared d depth → Cleared n reach → w ≡ s .written → d ≡ s .depth → n ≡ s .reach → length written ≡ w → Judges t s (left depth reach written) r
+  module _ (none : Free (TablesFault t (min (s .depth) (s .reach)))) where
+    pub judged : {depth reach written : List ℕ} {r : Verdict} → {d n w : ℕ} → Settled t w written r → Cleared d depth → Cleared n reach → w ≡ s .written → d ≡ s .depth → n ≡ s .reach → length written ≡ w → Judges t s (leftOf depth reach written) r
     judged {written = written} {r} k a b ew ed er e = record {
-      keeps = keeps-second Room Short (JudgeFault t s) (λ m x. call x) (λ m x. list x) either (Decided (oldMachine t) (newMachine t) (t .sizes) written) (Zero written) none (reply r) (rw ew at (k .keeps));
+      keeps = keeps-second Room Short (JudgeFault t s) (λ m x. call x) (λ m x. list x) either (Decided (oldMachine t) (newMachine t) (t .sizes) written) (Zero written) none (verdictReply r) (rw ew at (k .keeps));
       tidy = record { depth = rw ed at a; reach = rw er at b; written = e ∙ ew };
     }

@@ -14,21 +14,21 @@ use Rattle.memory.proofs.Slices.{front-unique}
 use Rattle.machine.specs.declared.Sizes.{Sizes}
 use Rattle.machine.specs.Meaning.Machine.{Machine}
 use Rattle.machine.specs.Meaning.Tables.{Tables, oldMachine, newMachine}
-use Rattle.machine.specs.Meaning.Verdict.{Written}
+use Rattle.machine.specs.Meaning.Verdict.{VerdictList}
 use Rattle.machine.specs.Meaning.Verdict as W
 use Rattle.machine.specs.Working.Pairs.{Closed}
 use Rattle.machine.proofs.Verdict.{written-unique, apart-unique, same-not-apart}
 use Rattle.machine.proofs.Written.{written-exists}
-use Rattle.seek.specs.Meaning.Faults.{Fault}
-use Rattle.seek.specs.Meaning.Lent.{Lent, Left}
+use Rattle.machine.specs.Meaning.Faults.{TablesFault}
+use Rattle.machine.specs.Meaning.Lent.{Lent, Left}
 use Rattle.seek.proofs.Refusals.{fault-some, good}
 use Rattle.seek.proofs.Sets.{inside}
 use Rattle.verdict.specs.declared.Verdict.{Verdict}
-use Rattle.verdict.specs.Meaning.Decision.{Decision, same, apart, reply, stepsOf, Says, Decided, short}
+use Rattle.verdict.specs.Meaning.Decision.{Decision, same, apart, verdictReply, stepsOf, Says, Decided, short}
 use Rattle.verdict.specs.Meaning.Promise.{JudgeFault, call, list, Judges}
 
 -- an answer is known by its reply
-reply-one : (q r : Verdict) → reply q ≡ reply r → q ≡ r
+reply-one : (q r : Verdict) → verdictReply q ≡ verdictReply r → q ≡ r
 reply-one (Verdict.Same n) (Verdict.Same k) e = cc
 reply-one (Verdict.Same n) (Verdict.Apart w k) e = cc
 reply-one (Verdict.Same n) (Verdict.Refused k) e = cc
@@ -41,7 +41,7 @@ reply-one (Verdict.Refused n) (Verdict.Refused k) e = cc
 
 -- two machines, and two list slices of one length
 module _ (m0 m1 : Machine) (z : Sizes) (closed : Closed m0 m1 z) where
-  written : {l : List ℕ} (x : Decision) → Says m0 m1 z l x → Written m0 m1 z l
+  written : {l : List ℕ} (x : Decision) → Says m0 m1 z l x → VerdictList m0 m1 z l
   written (same n) s = W.same s
   written (apart p n) s = W.apart p s
 
@@ -82,12 +82,12 @@ module _ (t : Tables) (s : Lent) where
   pub refused-0-shut : (e : Left) → Judges t s e (Verdict.Refused 0) → ⊥
   refused-0-shut e j = omega (arith, fault-positive (j .keeps .0 .applies))
 
-  module _ (none : Free (Fault t (min (s .depth) (s .reach)))) where
+  module _ (none : Free (TablesFault t (min (s .depth) (s .reach)))) where
     -- an accepted call has a list, and one only: 16 is measured on it
-    pub judged-list : (l : List ℕ) × Written m0 m1 (t .sizes) l
+    pub judged-list : (l : List ℕ) × VerdictList m0 m1 (t .sizes) l
     judged-list = written-exists m0 m1 (t .sizes) (inside t (good none))
 
-    pub judged-list-unique : (a b : List ℕ) → Written m0 m1 (t .sizes) a → Written m0 m1 (t .sizes) b → a ≡ b
+    pub judged-list-unique : (a b : List ℕ) → VerdictList m0 m1 (t .sizes) a → VerdictList m0 m1 (t .sizes) b → a ≡ b
     judged-list-unique = written-unique m0 m1 (t .sizes) (inside t (good none))
 
   closed : Free (JudgeFault t s) → Closed m0 m1 (t .sizes)
@@ -98,11 +98,11 @@ module _ (t : Tables) (s : Lent) where
     sizes : length (d .written) ≡ length (e .written)
     sizes = j .tidy .written ∙ sym (k .tidy .written)
 
-    pub judges-unique : (reply q ≡ reply r) × (d .written ≡ e .written)
+    pub judges-unique : (verdictReply q ≡ verdictReply r) × (d .written ≡ e .written)
     judges-unique =
         kept-unique (JudgeFault t s) (Decided m0 m1 (t .sizes)) Zero (d .written) (e .written)
         (λ f x y u v. (decision-unique m0 m1 (t .sizes) (closed f) (d .written) (e .written) sizes x y u v, list-unique m0 m1 (t .sizes) (closed f) (d .written) (e .written) sizes x y u v))
-        (zero-unique (d .written) (e .written) sizes) (reply q) (reply r) (j .keeps) (k .keeps)
+        (zero-unique (d .written) (e .written) sizes) (verdictReply q) (verdictReply r) (j .keeps) (k .keeps)
 
     pub verdict-unique : q ≡ r
     verdict-unique = reply-one q r (judges-unique .0)

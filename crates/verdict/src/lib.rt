@@ -4,11 +4,11 @@
 ghost use Prim.Native.Nat.{ℕ, _+_, _*_, _<_, _≤_};
 ghost use lib.ListN.{length, getD};
 ghost use lib.Seq.{slice};
-ghost use Rattle.memory.specs.Meaning.Slices.{Zero, Cleared};
+ghost use Rattle.memory.specs.Meaning.Slices.{Zero};
 ghost use Rattle.machine.specs.Meaning.Lists.{run};
-ghost use Rattle.machine.specs.Meaning.Tables.{tables, pairs, In, AlikeIn, AlignableIn};
+ghost use Rattle.machine.specs.Meaning.Tables.{bothTables, pairs, In, AlikeIn, AlignableIn};
 ghost use Rattle.search.specs.Working.{Few, LowestBelow};
-ghost use Rattle.seek.specs.Meaning.Lent.{lent, left};
+ghost use Rattle.machine.specs.Meaning.Lent.{lentOf, leftOf};
 ghost use Rattle.seek.specs.Working.Steps.{Good, MapFor, Outcome};
 ghost use Rattle.verdict.specs.Meaning.Promise.{Judges};
 ghost use Rattle.verdict.specs.Working.Marks.{AllAlignIn, SameIn, nextOf, Leading, Image, OpenAt, LowestZero, Mapped, Appended, Settled};
@@ -34,13 +34,13 @@ pub fn judge(
     reach: &mut [u16],
     list: &mut [u8],
 ) -> Verdict
-    ensures { λ r. ⌜ Judges (tables sizes (now («old_next» .entry)) (now («old_out» .entry)) (now («new_next» .entry)) (now («new_out» .entry))) (lent (length (now (depth .entry))) (length (now (reach .entry))) (length (now (list .entry)))) (left (now (depth .exit)) (now (reach .exit)) (now (list .exit))) r ⌝ }
+    ensures { λ r. ⌜ Judges (bothTables sizes (now («old_next» .entry)) (now («old_out» .entry)) (now («new_next» .entry)) (now («new_out» .entry))) (lentOf (length (now (depth .entry))) (length (now (reach .entry))) (length (now (list .entry)))) (leftOf (now (depth .exit)) (now (reach .exit)) (now (list .exit))) r ⌝ }
 {
     let room = memory::shorter(depth.len(), reach.len());
     let n = seek::call_fault(old_next, old_out, new_next, new_out, sizes, room);
     memory::clear_bytes(list);
     if n != 0 {
-        clear_scratch(depth, reach);
+        memory::clear_scratch(depth, reach);
         return Verdict::Refused(n);
     }
     seek::map_both(old_next, old_out, new_next, new_out, sizes, depth, reach);
@@ -54,16 +54,8 @@ pub fn judge(
         reach,
         list,
     );
-    clear_scratch(depth, reach);
+    memory::clear_scratch(depth, reach);
     verdict
-}
-
-// Every number of both scratch slices becomes 0.
-fn clear_scratch(depth: &mut [u16], reach: &mut [u16])
-    ensures { λ _. ⌜ Cleared (length (now (depth .entry))) (now (depth .exit)) × Cleared (length (now (reach .entry))) (now (reach .exit)) ⌝ }
-{
-    memory::clear_numbers(depth);
-    memory::clear_numbers(reach);
 }
 
 // The verdict, by the two maps, in a list slice that is all zero.
@@ -77,9 +69,9 @@ fn decide(
     reach: &[u16],
     list: &mut [u8],
 ) -> Verdict
-    requires { ⌜ Mapped (tables sizes (now «old_next») (now «old_out») (now «new_next») (now «new_out»)) (now depth) (now reach) ⌝ }
+    requires { ⌜ Mapped (bothTables sizes (now «old_next») (now «old_out») (now «new_next») (now «new_out»)) (now depth) (now reach) ⌝ }
     requires { ⌜ Zero (now list) ⌝ }
-    ensures { λ r. ⌜ Settled (tables sizes (now («old_next» .entry)) (now («old_out» .entry)) (now («new_next» .entry)) (now («new_out» .entry))) (length (now (list .entry))) (now (list .exit)) r ⌝ }
+    ensures { λ r. ⌜ Settled (bothTables sizes (now («old_next» .entry)) (now («old_out» .entry)) (now («new_next» .entry)) (now («new_out» .entry))) (length (now (list .entry))) (now (list .exit)) r ⌝ }
 {
     let p = lowest_zero(sizes, reach);
     if p.old < sizes.old {
@@ -138,10 +130,10 @@ fn align(
     reach: &[u16],
     list: &mut [u8],
 ) -> Found
-    requires { ⌜ Mapped (tables sizes (now «old_next») (now «old_out») (now «new_next») (now «new_out»)) (now depth) (now reach) ⌝ }
-    requires { ⌜ AllAlignIn (tables sizes (now «old_next») (now «old_out») (now «new_next») (now «new_out»)) ⌝ }
+    requires { ⌜ Mapped (bothTables sizes (now «old_next») (now «old_out») (now «new_next») (now «new_out»)) (now depth) (now reach) ⌝ }
+    requires { ⌜ AllAlignIn (bothTables sizes (now «old_next») (now «old_out») (now «new_next») (now «new_out»)) ⌝ }
     requires { ⌜ Zero (now list) ⌝ }
-    ensures { λ r. ⌜ Outcome ⊥ (SameIn (tables sizes (now («old_next» .entry)) (now («old_out» .entry)) (now («new_next» .entry)) (now («new_out» .entry)))) (now (list .entry)) (now (list .exit)) r ⌝ }
+    ensures { λ r. ⌜ Outcome ⊥ (SameIn (bothTables sizes (now («old_next» .entry)) (now («old_out» .entry)) (now («new_next» .entry)) (now («new_out» .entry)))) (now (list .entry)) (now (list .exit)) r ⌝ }
 {
     let end = search::total(sizes);
     let mut old_marks = [true; 128];
@@ -214,13 +206,13 @@ fn append(
     list: &mut [u8],
     len: usize,
 ) -> Found
-    requires { ⌜ Good (tables sizes (now «old_next») (now «old_out») (now «new_next») (now «new_out»)) ⌝ }
+    requires { ⌜ Good (bothTables sizes (now «old_next») (now «old_out») (now «new_next») (now «new_out»)) ⌝ }
     requires { ⌜ pairs sizes ≤ length (now reach) ⌝ }
-    requires { ⌜ MapFor (tables sizes (now «old_next») (now «old_out») (now «new_next») (now «new_out»)) (AlikeIn (tables sizes (now «old_next») (now «old_out») (now «new_next») (now «new_out»))) (now reach) ⌝ }
+    requires { ⌜ MapFor (bothTables sizes (now «old_next») (now «old_out») (now «new_next») (now «new_out»)) (AlikeIn (bothTables sizes (now «old_next») (now «old_out») (now «new_next») (now «new_out»))) (now reach) ⌝ }
     requires { ⌜ In sizes p ⌝ }
-    requires { ⌜ AlignableIn (tables sizes (now «old_next») (now «old_out») (now «new_next») (now «new_out»)) p ⌝ }
+    requires { ⌜ AlignableIn (bothTables sizes (now «old_next») (now «old_out») (now «new_next») (now «new_out»)) p ⌝ }
     requires { ⌜ len ≤ length (now list) ⌝ }
-    ensures { λ r. ⌜ Appended (tables sizes (now («old_next» .entry)) (now («old_out» .entry)) (now («new_next» .entry)) (now («new_out» .entry))) p len (now (list .entry)) (now (list .exit)) r ⌝ }
+    ensures { λ r. ⌜ Appended (bothTables sizes (now («old_next» .entry)) (now («old_out» .entry)) (now («new_next» .entry)) (now («new_out» .entry))) p len (now (list .entry)) (now (list .exit)) r ⌝ }
 {
     seek::find_list(
         old_next,

@@ -22,7 +22,7 @@ use Rattle.machine.specs.declared.Sizes.{Sizes}
 use Rattle.machine.specs.Meaning.Machine.{Alike, Alignable}
 use Rattle.machine.specs.Meaning.Tables.{Ok, pairs}
 use Rattle.machine.specs.Meaning.Verdict.{IsSame, IsApart}
-use Rattle.seek.specs.Meaning.Lent.{Lent}
+use Rattle.machine.specs.Meaning.Lent.{Lent}
 use Rattle.engine.specs.Meaning.Maps.{Marks}
 use Rattle.compare.specs.Meaning.Designs.{machineOf, sizesOf}
 use Rattle.compare.specs.Meaning.Comparing.{TablesLent, CompareFault}

@@ -14,9 +14,9 @@ use Rattle.memory.specs.Meaning.Refusals.{Reply, answer, refusal}
 use Rattle.netlist.specs.declared.Design.{Design}
 use Rattle.netlist.specs.Meaning.Faults.{Accepted}
 use Rattle.simulator.specs.Meaning.Tables.{sizeOf, HoldsDesign}
-use Rattle.seek.specs.Meaning.Lent.{Lent, lent, left}
+use Rattle.machine.specs.Meaning.Lent.{Lent, lentOf, leftOf}
 use Rattle.verdict.specs.declared.Verdict.{Verdict}
-use Rattle.compare.specs.Meaning.Comparing.{TablesLent, tablesLent, tablesLeft, Compares}
+use Rattle.compare.specs.Meaning.Comparing.{TablesLent, tablesLentOf, tablesLeftOf, Compares}
 use Rattle.align_report.specs.declared.Counted.{Counted}
 use Rattle.align_report.specs.Meaning.Report.{FactsOf, AnswersDesigns}
 
@@ -41,8 +41,8 @@ CountsPairs a b (Counted.Refused n) = ⊥
 
 abbrev pub ComparesIn : Design → Design → List ℕ → List ℕ → List ℕ → List ℕ → List ℕ → List ℕ → List ℕ → Verdict → Type 0
 ComparesIn a b next0 out0 next1 out1 depth reach list r =
-    Compares a b (tablesLent (length next0) (length out0) (length next1) (length out1)) (lent (length depth) (length reach) (length list))
-    (tablesLeft next0 out0 next1 out1) (left depth reach list) r
+    Compares a b (tablesLentOf (length next0) (length out0) (length next1) (length out1)) (lentOf (length depth) (length reach) (length list))
+    (tablesLeftOf next0 out0 next1 out1) (leftOf depth reach list) r
 
 abbrev pub NotSame : Verdict → Type 0
 NotSame (Verdict.Same n) = ⊥

@@ -1,5 +1,5 @@
 -- The comparison of two designs: what `compare` promises.
---   TablesLent, TablesLeft   lengths of the four table slices at entry, and what they hold at exit; tablesLent and tablesLeft make them
+--   TablesLent, TablesLeft   lengths of the four table slices at entry, and what they hold at exit; tablesLentOf and tablesLeftOf make them
 --   CompareFault a b n s k   number k applies to comparing a and b with table slices of lengths n and other slices of lengths s
 --   Compared a b t e x       what the decision x leaves: the tables of both designs, and its list
 --   ClearedAll t e           what a refusal leaves: every written slice is zero
@@ -14,9 +14,9 @@ use Rattle.memory.specs.Meaning.Slices.{Zero}
 use Rattle.netlist.specs.declared.Design.{Design}
 use Rattle.simulator.specs.Meaning.Tables.{HoldsDesign, ZeroTables, BothFault}
 use Rattle.machine.specs.Meaning.Tables.{pairs}
-use Rattle.seek.specs.Meaning.Lent.{Lent, Left, Tidy}
+use Rattle.machine.specs.Meaning.Lent.{Lent, Left, Tidy}
 use Rattle.verdict.specs.declared.Verdict.{Verdict}
-use Rattle.verdict.specs.Meaning.Decision.{Decision, reply, Decided, ShortList}
+use Rattle.verdict.specs.Meaning.Decision.{Decision, verdictReply, Decided, ShortList}
 use Rattle.compare.specs.Meaning.Designs.{machineOf, sizesOf}
 
 -- "two table slices a design, S × V bytes each"
@@ -32,11 +32,11 @@ pub record TablesLeft : Type 0 where
   pub new-next : List ℕ
   pub new-out : List ℕ
 
-abbrev pub tablesLent : ℕ → ℕ → ℕ → ℕ → TablesLent
-tablesLent n0 o0 n1 o1 = record { old-next = n0; old-out = o0; new-next = n1; new-out = o1 }
+abbrev pub tablesLentOf : ℕ → ℕ → ℕ → ℕ → TablesLent
+tablesLentOf n0 o0 n1 o1 = record { old-next = n0; old-out = o0; new-next = n1; new-out = o1 }
 
-abbrev pub tablesLeft : List ℕ → List ℕ → List ℕ → List ℕ → TablesLeft
-tablesLeft n0 o0 n1 o1 = record { old-next = n0; old-out = o0; new-next = n1; new-out = o1 }
+abbrev pub tablesLeftOf : List ℕ → List ℕ → List ℕ → List ℕ → TablesLeft
+tablesLeftOf n0 o0 n1 o1 = record { old-next = n0; old-out = o0; new-next = n1; new-out = o1 }
 
 -- 3, 5, 9, 10 and 12 as for tabulating both; 12 of scratch; 16 of the list slice. 11 and 13 are never found: sizes and next states are the designs'
 pub data CompareFault (a b : Design) (n : TablesLent) (s : Lent) : ℕ → Type 0 where
@@ -63,6 +63,6 @@ pub record TablesKept (n : TablesLent) (t : TablesLeft) : Type 0 where
   pub new-out : length (t .new-out) ≡ n .new-out
 
 pub record Compares (a b : Design) (n : TablesLent) (s : Lent) (t : TablesLeft) (e : Left) (r : Verdict) : Type 0 where
-  pub keeps : Keeps (CompareFault a b n s) (Compared a b t e) (ClearedAll t e) (reply r)
+  pub keeps : Keeps (CompareFault a b n s) (Compared a b t e) (ClearedAll t e) (verdictReply r)
   pub tidy : Tidy s e
   pub tables : TablesKept n t

@@ -12,8 +12,8 @@ use Rattle.netlist.specs.Meaning.Faults.{Accepted}
 use Rattle.simulator.specs.Meaning.Tables.{sizeOf}
 use Rattle.machine.specs.declared.Pair.{Pair}
 use Rattle.machine.specs.Meaning.Tables.{pairs, number, In}
-use Rattle.machine.specs.Meaning.Verdict.{Written}
-use Rattle.seek.specs.Meaning.Lent.{Lent, Left}
+use Rattle.machine.specs.Meaning.Verdict.{VerdictList}
+use Rattle.machine.specs.Meaning.Lent.{Lent, Left}
 use Rattle.verdict.specs.declared.Verdict.{Verdict}
 use Rattle.compare.specs.Meaning.Designs.{machineOf, sizesOf, Compatible, Drives}
 use Rattle.compare.specs.Meaning.Comparing.{TablesLent}
@@ -40,7 +40,7 @@ pub record EnoughTables (a b : Design) (n : TablesLent) : Type 0 where
 -- "two scratch slices of one 16-bit number a pair", and a list slice no shorter than the answer
 pub record Enough (a b : Design) (s : Lent) : Type 0 where
   pub scratch : pairs (sizesOf a b) ≤ min (s .depth) (s .reach)
-  pub list : (l : List ℕ) → Written (machineOf a) (machineOf b) (sizesOf a b) l → length l ≤ s .written
+  pub list : (l : List ℕ) → VerdictList (machineOf a) (machineOf b) (sizesOf a b) l → length l ≤ s .written
 
 abbrev pub Demand3 : Design → Design → TablesLent → Lent → Left → Verdict → Type 0
 Demand3 a b n s e r = Accepted a → Accepted b → Compatible a b → EnoughTables a b n → Enough a b s → Right a b (e .written) r

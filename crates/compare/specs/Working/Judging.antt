@@ -6,18 +6,18 @@ use Rattle.memory.specs.Meaning.Refusals.{Reply, answer, refusal}
 use lib.ListN.{length}
 use Rattle.memory.specs.Meaning.Slices.{Cleared}
 use Rattle.machine.specs.Meaning.Tables.{Tables}
-use Rattle.seek.specs.Meaning.Lent.{Lent, Left}
+use Rattle.machine.specs.Meaning.Lent.{Lent, Left}
 use Rattle.verdict.specs.declared.Verdict.{Verdict}
-use Rattle.verdict.specs.Meaning.Decision.{Decision, reply}
+use Rattle.verdict.specs.Meaning.Decision.{Decision, verdictReply}
 use Rattle.verdict.specs.Meaning.Promise.{Judges}
-use Rattle.compare.specs.Meaning.Comparing.{TablesLeft, tablesLeft}
+use Rattle.compare.specs.Meaning.Comparing.{TablesLeft, tablesLeftOf}
 
 abbrev pub KeptOrCleared : Tables → TablesLeft → Reply Decision → Type 0
-KeptOrCleared t l (answer x) = l ≡ tablesLeft (t .old-next) (t .old-out) (t .new-next) (t .new-out)
+KeptOrCleared t l (answer x) = l ≡ tablesLeftOf (t .old-next) (t .old-out) (t .new-next) (t .new-out)
 KeptOrCleared t l (refusal n) =
     (Cleared (length (t .old-next)) (l .old-next) × Cleared (length (t .old-out)) (l .old-out))
     × (Cleared (length (t .new-next)) (l .new-next) × Cleared (length (t .new-out)) (l .new-out))
 
 pub record JudgedOrCleared (t : Tables) (s : Lent) (l : TablesLeft) (e : Left) (r : Verdict) : Type 0 where
   pub judges : Judges t s e r
-  pub tables : KeptOrCleared t l (reply r)
+  pub tables : KeptOrCleared t l (verdictReply r)

@@ -12,8 +12,8 @@ use Rattle.memory.specs.Meaning.Slices.{Zero}
 use Rattle.machine.specs.declared.Found.{Found}
 use Rattle.machine.specs.declared.Pair.{Pair}
 use Rattle.machine.specs.Meaning.Tables.{Tables, AlikeIn, AlignableIn, TraceIn, ListIn}
-use Rattle.seek.specs.Meaning.Faults.{Fault}
-use Rattle.seek.specs.Meaning.Lent.{Lent, Left, Tidy, Listed}
+use Rattle.machine.specs.Meaning.Faults.{TablesFault}
+use Rattle.machine.specs.Meaning.Lent.{Lent, Left, Tidy, Listed}
 
 abbrev pub foundReply : Found → Reply ℕ
 foundReply (Found.Steps n) = answer n
@@ -21,7 +21,7 @@ foundReply (Found.Refused n) = refusal n
 
 -- "14 a state .. not below its count", besides 11, 12 and 13
 pub data StateFault (t : Tables) (room : ℕ) (p : Pair) : ℕ → Type 0 where
-  call : {n : ℕ} → Fault t room n → StateFault t room p n
+  call : {n : ℕ} → TablesFault t room n → StateFault t room p n
   old-state : t .sizes .old ≤ p .old → StateFault t room p 14
   new-state : t .sizes .new ≤ p .new → StateFault t room p 14
 

@@ -5,7 +5,7 @@
 --   at z d p         what a list d with one entry a pair holds for p
 --   In z p           both states of p are below their counts
 --   Ok z v           the vector v is below V
---   Tables           the sizes, and next states and outputs of both designs
+--   Tables           the sizes, and next states and outputs of both designs; bothTables makes it
 --   oldMachine, newMachine                          the machines that they are
 --   AlikeIn, AlignableIn, TraceIn, ListIn, RoundIn  what Machine and Rounds say of these two machines
 --   Flag P x         x is 1 where P holds, and 0 where it does not
@@ -50,8 +50,8 @@ pub record Tables : Type 0 where
   pub new-next : List ℕ
   pub new-out : List ℕ
 
-abbrev pub tables : Sizes → List ℕ → List ℕ → List ℕ → List ℕ → Tables
-tables z next0 out0 next1 out1 = record { sizes = z; old-next = next0; old-out = out0; new-next = next1; new-out = out1 }
+abbrev pub bothTables : Sizes → List ℕ → List ℕ → List ℕ → List ℕ → Tables
+bothTables z next0 out0 next1 out1 = record { sizes = z; old-next = next0; old-out = out0; new-next = next1; new-out = out1 }
 
 abbrev pub oldMachine : Tables → Machine
 oldMachine t = record { next = entry (t .sizes) (t .old-next); out = entry (t .sizes) (t .old-out) }

@@ -6,7 +6,7 @@
 --   AllAlign         Definition 8: every pair is alignable
 --   IsSame l         Same, with the list l
 --   IsApart p l      Apart, with the pair p and its trace l
---   Written l        l is what the verdict writes
+--   VerdictList l    l is what the verdict writes
 -- All stand for two machines m0 and m1 and their sizes z.
 use mathlib.Core.Path.{_≡_}
 use mathlib.Core.List.{List, [], _++_}
@@ -56,6 +56,6 @@ module _ (m0 m1 : Machine) (z : Sizes) where
     pub trace : IsTrace m0 m1 (Ok z) p l
 
   -- the list or trace, on which the list slice is measured
-  pub data Written (l : List ℕ) : Type 0 where
-    same : IsSame l → Written l
-    apart : (p : Pair) → IsApart p l → Written l
+  pub data VerdictList (l : List ℕ) : Type 0 where
+    same : IsSame l → VerdictList l
+    apart : (p : Pair) → IsApart p l → VerdictList l

@@ -5,8 +5,10 @@
 --   headerBits, cellBits                              bits of the header, and of a cell
 --   bitsFor g l o, bytesFor g l o                     bits and bytes of an image of g cells, l flip-flops and o outputs
 --   mostBytes                                         bytes of the largest image
---   mostNets                                          nets of the largest design
+--   AreLimits r                                       r holds these limits
 use Prim.Native.Nat.{ℕ, _+_, _*_, _/_}
+use mathlib.Core.Path.{_≡_}
+use Rattle.netlist.specs.declared.Limits.{Limits}
 
 -- "inputs I (4 bits, 0..6)"
 abbrev pub mostInputs : ℕ
@@ -67,6 +69,10 @@ bytesFor g l o = (bitsFor g l o + 7) / 8
 abbrev pub mostBytes : ℕ
 mostBytes = bytesFor mostCells mostLatches mostOutputs
 
--- nets 0 and 1, then inputs, flip-flops and cells
-abbrev pub mostNets : ℕ
-mostNets = 2 + mostInputs + mostLatches + mostCells
+-- "These limits belong to the format and are named once, with it": the constants of the code are these
+pub record AreLimits (r : Limits) : Type 0 where
+  pub inputs : r .inputs ≡ mostInputs
+  pub latches : r .latches ≡ mostLatches
+  pub outputs : r .outputs ≡ mostOutputs
+  pub cells : r .cells ≡ mostCells
+  pub bytes : r .bytes ≡ mostBytes

@@ -8,7 +8,7 @@
 --   sizesLine, countLine, headText   the lines in front of a verdict
 --   sameText f l               the text of Same with the list l
 --   apartText m0 m1 f p l      the text of Apart with the pair p and its trace l, of the machines m0 and m1
---   shownLines, shownIn        the lines of a trace, of two machines and of two tables
+--   shownLines                 the lines of a trace of two machines
 --   apartIn t f p l            the text of Apart, of the machines in the tables t
 --   Printed l text′ r          the first r bytes of text′ are the text l
 use Prim.Native.Nat.{ℕ, zero, suc, _/_}
@@ -110,9 +110,6 @@ module _ (m0 m1 : Machine) where
   apartText f p l = headText f ++ pairLine p (length l) ++ shownLines p l
 
 -- the same of the machines in two tables
-abbrev pub shownIn : Tables → Pair → List ℕ → List ℕ
-shownIn t p l = shownLines (oldMachine t) (newMachine t) p l
-
 abbrev pub apartIn : Tables → Facts → Pair → List ℕ → List ℕ
 apartIn t f p l = apartText (oldMachine t) (newMachine t) f p l
 

@@ -1,5 +1,5 @@
 -- `call_fault`: the lowest number, in the order of the tests.
-use Rattle.seek.specs.Meaning.Faults.{Fault}
+use Rattle.machine.specs.Meaning.Faults.{TablesFault}
 use Rattle.seek.proofs.Refusals.{at-11, at-12, at-13, at-none}
 use borrow.Author.Needs.{needs}
 use Rattle.seek.proofs.call_fault.Statement.{statement}
@@ -26,7 +26,7 @@ leads-out-requires c κs =
 
 returns-3 : tie.Need-returns-3
 returns-3 c =
-    at-13 (rw (c .before .before .before .before .if1 .left) at (c .before .before .before .before .before .out-of-range .ensures)) (rw (c .before .before .if2 .left) at (c .before .before .before .too-short .ensures)) (Fault.old-leads (rw (c .if3 .taken) at (c .before .leads-out .ensures)))
+    at-13 (rw (c .before .before .before .before .if1 .left) at (c .before .before .before .before .before .out-of-range .ensures)) (rw (c .before .before .if2 .left) at (c .before .before .before .too-short .ensures)) (TablesFault.old-leads (rw (c .if3 .taken) at (c .before .leads-out .ensures)))
 
 leads-out-requires-2 : tie.Need-leads-out-requires-2
 leads-out-requires-2 c κs =
@@ -36,7 +36,7 @@ leads-out-requires-2 c κs =
 
 returns-4 : tie.Need-returns-4
 returns-4 c =
-    at-13 (rw (c .before .before .before .before .before .before .if1 .left) at (c .before .before .before .before .before .before .before .out-of-range .ensures)) (rw (c .before .before .before .before .if2 .left) at (c .before .before .before .before .before .too-short .ensures)) (Fault.new-leads (rw (c .if4 .taken) at (c .before .leads-out2 .ensures)))
+    at-13 (rw (c .before .before .before .before .before .before .if1 .left) at (c .before .before .before .before .before .before .before .out-of-range .ensures)) (rw (c .before .before .before .before .if2 .left) at (c .before .before .before .before .before .too-short .ensures)) (TablesFault.new-leads (rw (c .if4 .taken) at (c .before .leads-out2 .ensures)))
 
 returns-5 : tie.Need-returns-5
 returns-5 c =

@@ -4,7 +4,7 @@ use Prim.Native.Nat.{ℕ, _≤_, _<_, _-_, _*_}
 use native.Mathlib.Nat.{mul-le-mul}
 use borrow.Author.Count.{below-more}
 use lib.ListN.{getD}
-use Rattle.seek.specs.Meaning.Faults.{leads}
+use Rattle.machine.specs.Meaning.Faults.{leads}
 use Rattle.seek.proofs.leads_out.Statement.{statement}
 use Rattle.seek.proofs.leads_out.Tie as tie
 

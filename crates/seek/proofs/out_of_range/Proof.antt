@@ -1,5 +1,5 @@
 -- `out_of_range`: each test is a reason.
-use Rattle.seek.specs.Meaning.Faults.{OutOfRange}
+use Rattle.machine.specs.Meaning.Faults.{OutOfRange}
 use borrow.Author.Needs.{needs}
 use Rattle.seek.proofs.out_of_range.Statement.{statement}
 use Rattle.seek.proofs.out_of_range.Tie as tie

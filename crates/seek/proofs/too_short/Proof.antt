@@ -1,7 +1,7 @@
 -- `too_short`: each test is a reason.
 use native.Mathlib.Omega.{arith}
 use native.Mathlib.Nat.{mul-le-mul}
-use Rattle.seek.specs.Meaning.Faults.{TooShort}
+use Rattle.machine.specs.Meaning.Faults.{TooShort}
 use borrow.Author.Needs.{needs}
 use Rattle.seek.proofs.too_short.Statement.{statement}
 use Rattle.seek.proofs.too_short.Tie as tie

@@ -1,5 +1,5 @@
 -- One clock of a design.
---   Step               what a clock gives: the next state and the output
+--   StepValues         what a clock gives: the next state and the output
 --   clockReply r       the number or the values of each answer
 --   ClockFault d s v n number n applies to a clock of the design d from state s under vector v
 --   IsStep d s v a     a is that clock
@@ -12,12 +12,12 @@ use Rattle.netlist.specs.Meaning.Nets.{statesOf, vectorsOf, nextState, outputs}
 use Rattle.netlist.specs.Meaning.Faults.{DesignFault}
 use Rattle.simulator.specs.declared.Clocked.{Clocked}
 
-pub record Step : Type 0 where
+pub record StepValues : Type 0 where
   pub next : ℕ
   pub out : ℕ
 
 -- "a definition gives this paper's number and values for each of its cases"
-abbrev pub clockReply : Clocked → Reply Step
+abbrev pub clockReply : Clocked → Reply StepValues
 clockReply (Clocked.Step n o) = answer (record { next = n; out = o })
 clockReply (Clocked.Refused n) = refusal n
 
@@ -28,7 +28,7 @@ pub data ClockFault (d : Design) (s v : ℕ) : ℕ → Type 0 where
   vector : vectorsOf d ≤ v → ClockFault d s v 14
 
 -- "One step from a state under a vector gives outputs from the values before the clock, and the next state"
-pub record IsStep (d : Design) (s v : ℕ) (a : Step) : Type 0 where
+pub record IsStep (d : Design) (s v : ℕ) (a : StepValues) : Type 0 where
   pub next : a .next ≡ nextState d s v
   pub out : a .out ≡ outputs d s v
 

@@ -1,4 +1,5 @@
 -- The values of the nets in one clock.
+--   mostNets         nets of the largest design
 --   Evaluable d l    what a clock needs: sizes and nets in range, and an order l of the cells
 --   Holds f l        the list l holds f n for every net n
 --   Readable l n w   the first n nets of the list l are places of w, and w holds bits
@@ -10,9 +11,12 @@ use lib.ListN.{length, getD}
 use Rattle.numbers.specs.Meaning.Bits.{bitOf}
 use Rattle.memory.specs.Working.Filling.{Filled}
 use Rattle.netlist.specs.declared.Design.{Design}
-use Rattle.netlist.specs.Meaning.Limits.{mostNets}
+use Rattle.netlist.specs.Meaning.Limits.{mostInputs, mostLatches, mostCells}
 use Rattle.netlist.specs.Meaning.Order.{Ordered}
 use Rattle.netlist.specs.Working.Placing.{Sound}
+
+abbrev pub mostNets : ℕ
+mostNets = 2 + mostInputs + mostLatches + mostCells
 
 pub record Evaluable (d : Design) (l : List ℕ) : Type 0 where
   pub sound : Sound d

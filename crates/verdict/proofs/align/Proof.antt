@@ -4,7 +4,7 @@ use native.Mathlib.Omega.{arith}
 use lib.Dec.{eqb}
 use lib.ListN.{take}
 use borrow.Author.Needs.{needs}
-use Rattle.machine.specs.Meaning.Tables.{tables, at, oldMachine, newMachine}
+use Rattle.machine.specs.Meaning.Tables.{bothTables, at, oldMachine, newMachine}
 use Rattle.machine.proofs.Ending.{unaligned}
 use Rattle.verdict.proofs.Aligning.{Aligning, leading-old, leading-new, aligning-start, aligned, found-under, no-room, added-fits, part-below, falls, aligning-more, its-part}
 use Rattle.verdict.proofs.align.Statement.{statement}
@@ -12,11 +12,11 @@ use Rattle.verdict.proofs.align.Tie as tie
 
 abbrev Inv-loop : tie.InvT-loop
 Inv-loop old-next old-out new-next new-out sizes depth reach list₀ end old-marks₀ new-marks₀ len₀ list old-marks new-marks len =
-    Aligning (tables sizes old-next old-out new-next new-out) list₀ list len old-marks new-marks
+    Aligning (bothTables sizes old-next old-out new-next new-out) list₀ list len old-marks new-marks
 
 abbrev μ-loop : tie.MeasureT-loop
 μ-loop old-next old-out new-next new-out sizes depth reach list₀ end old-marks₀ new-marks₀ len₀ list old-marks new-marks len =
-    unaligned (oldMachine (tables sizes old-next old-out new-next new-out)) (newMachine (tables sizes old-next old-out new-next new-out)) sizes (λ p. eqb (at sizes depth p) 0) (take len list)
+    unaligned (oldMachine (bothTables sizes old-next old-out new-next new-out)) (newMachine (bothTables sizes old-next old-out new-next new-out)) sizes (λ p. eqb (at sizes depth p) 0) (take len list)
 
 total-requires : tie.Need-total-requires Inv-loop μ-loop
 total-requires c κs =

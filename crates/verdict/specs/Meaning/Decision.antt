@@ -1,6 +1,6 @@
 -- The decision on two machines, and the list that is written beside it.
 --   Decision                  Same, or Apart with its pair; and how many steps its list or trace has
---   reply r                   the number and the values of each case of the answer
+--   verdictReply r            the number and the values of each case of the answer
 --   stepsOf x                 how many steps are written
 --   Says m0 m1 z l x          the decision x is right, with the list l
 --   Decided m0 m1 z list x    and that list stands at the front of the list slice, with all beyond it 0
@@ -12,8 +12,8 @@ use Rattle.memory.specs.Meaning.Refusals.{Reply, answer, refusal}
 use Rattle.machine.specs.declared.Pair.{Pair}
 use Rattle.machine.specs.declared.Sizes.{Sizes}
 use Rattle.machine.specs.Meaning.Machine.{Machine}
-use Rattle.machine.specs.Meaning.Verdict.{IsSame, IsApart, Written}
-use Rattle.seek.specs.Meaning.Lent.{Listed}
+use Rattle.machine.specs.Meaning.Verdict.{IsSame, IsApart, VerdictList}
+use Rattle.machine.specs.Meaning.Lent.{Listed}
 use Rattle.verdict.specs.declared.Verdict.{Verdict}
 
 -- "the verdict with its list's length"; "Apart .. names the lowest such pair, with its trace"
@@ -22,10 +22,10 @@ pub data Decision : Type 0 where
   apart : Pair → ℕ → Decision
 
 -- "a definition gives this paper's number and values for each of its cases"
-abbrev pub reply : Verdict → Reply Decision
-reply (Verdict.Same n) = answer (same n)
-reply (Verdict.Apart p n) = answer (apart p n)
-reply (Verdict.Refused n) = refusal n
+abbrev pub verdictReply : Verdict → Reply Decision
+verdictReply (Verdict.Same n) = answer (same n)
+verdictReply (Verdict.Apart p n) = answer (apart p n)
+verdictReply (Verdict.Refused n) = refusal n
 
 abbrev pub stepsOf : Decision → ℕ
 stepsOf (same n) = n
@@ -43,4 +43,4 @@ module _ (m0 m1 : Machine) (z : Sizes) where
 
   -- "16 list slice shorter than the answer"
   pub data ShortList (n : ℕ) : ℕ → Type 0 where
-    short : (l : List ℕ) → Written m0 m1 z l → n < length l → ShortList n 16
+    short : (l : List ℕ) → VerdictList m0 m1 z l → n < length l → ShortList n 16

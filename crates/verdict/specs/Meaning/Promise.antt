@@ -5,17 +5,17 @@ use Prim.Native.Nat.{ℕ, min}
 use Rattle.memory.specs.Meaning.Refusals.{Keeps}
 use Rattle.memory.specs.Meaning.Slices.{Zero}
 use Rattle.machine.specs.Meaning.Tables.{Tables, oldMachine, newMachine}
-use Rattle.seek.specs.Meaning.Faults.{Fault}
-use Rattle.seek.specs.Meaning.Lent.{Lent, Left, Tidy}
+use Rattle.machine.specs.Meaning.Faults.{TablesFault}
+use Rattle.machine.specs.Meaning.Lent.{Lent, Left, Tidy}
 use Rattle.verdict.specs.declared.Verdict.{Verdict}
-use Rattle.verdict.specs.Meaning.Decision.{reply, Decided, ShortList}
+use Rattle.verdict.specs.Meaning.Decision.{verdictReply, Decided, ShortList}
 
 -- 11, 12 and 13 of the tables and scratch; 16 of the list slice
 pub data JudgeFault (t : Tables) (s : Lent) : ℕ → Type 0 where
-  call : {n : ℕ} → Fault t (min (s .depth) (s .reach)) n → JudgeFault t s n
+  call : {n : ℕ} → TablesFault t (min (s .depth) (s .reach)) n → JudgeFault t s n
   list : {n : ℕ} → ShortList (oldMachine t) (newMachine t) (t .sizes) (s .written) n → JudgeFault t s n
 
 -- "After any call scratch is all zero. After a refusal every written slice is zero throughout"
 pub record Judges (t : Tables) (s : Lent) (e : Left) (r : Verdict) : Type 0 where
-  pub keeps : Keeps (JudgeFault t s) (Decided (oldMachine t) (newMachine t) (t .sizes) (e .written)) (Zero (e .written)) (reply r)
+  pub keeps : Keeps (JudgeFault t s) (Decided (oldMachine t) (newMachine t) (t .sizes) (e .written)) (Zero (e .written)) (verdictReply r)
   pub tidy : Tidy s e

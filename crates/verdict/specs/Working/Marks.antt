@@ -27,7 +27,7 @@ use Rattle.memory.specs.Meaning.Refusals.{Keeps}
 use Rattle.memory.specs.Meaning.Slices.{Zero}
 use Rattle.seek.specs.Working.Steps.{Good, Both}
 use Rattle.verdict.specs.declared.Verdict.{Verdict}
-use Rattle.verdict.specs.Meaning.Decision.{reply, Decided, ShortList}
+use Rattle.verdict.specs.Meaning.Decision.{verdictReply, Decided, ShortList}
 
 abbrev pub AllAlignIn : Tables → Type 0
 AllAlignIn t = AllAlign (oldMachine t) (newMachine t) (t .sizes)
@@ -84,4 +84,4 @@ pub data Appended (t : Tables) (p : Pair) (len : ℕ) (list list′ : List ℕ) 
   full : (part : List ℕ) → ListIn t p part → length list < len + length part → Appended t p len list list′ (Found.Refused 16)
 
 pub record Settled (t : Tables) (n : ℕ) (list′ : List ℕ) (r : Verdict) : Type 0 where
-  pub keeps : Keeps (ShortList (oldMachine t) (newMachine t) (t .sizes) n) (Decided (oldMachine t) (newMachine t) (t .sizes) list′) (Zero list′) (reply r)
+  pub keeps : Keeps (ShortList (oldMachine t) (newMachine t) (t .sizes) n) (Decided (oldMachine t) (newMachine t) (t .sizes) list′) (Zero list′) (verdictReply r)

@@ -2,14 +2,14 @@
 --   OutOfRange z         11
 --   TooShort t room      12
 --   LeadsOut s v next    13, of the table next of s states and v vectors
---   Fault t room n       number n of document 01's table applies to a call that is lent the tables t; of the slices with one entry a
+--   TablesFault t room n number n of document 01's table applies to a call that is lent the tables t; of the slices with one entry a
 --                        pair (marks and scratch) the shortest has room entries
 use mathlib.Core.Path.{_≡_}
 use mathlib.Core.List.{List}
 use Prim.Native.Nat.{ℕ, _<_, _≤_, _*_}
 use lib.ListN.{length, getD}
 use Rattle.machine.specs.declared.Sizes.{Sizes}
 use Rattle.machine.specs.Meaning.Tables.{Tables, pairs}
 
 -- "S states (1..128), V vectors (1..64 ..)"
 pub data OutOfRange (z : Sizes) : Type 0 where
@@ -33,8 +33,8 @@ pub data LeadsOut (states vectors : ℕ) (next : List ℕ) : Type 0 where
   leads : (i : ℕ) → i < states * vectors → states ≤ getD next i 0 → LeadsOut states vectors next
 
 -- "11 S or V out of range; 12 a table, mark, scratch .. slice too short; 13 a table's next state not below S"
-pub data Fault (t : Tables) (room : ℕ) : ℕ → Type 0 where
-  range : OutOfRange (t .sizes) → Fault t room 11
-  short : TooShort t room → Fault t room 12
-  old-leads : LeadsOut (t .sizes .old) (t .sizes .vectors) (t .old-next) → Fault t room 13
-  new-leads : LeadsOut (t .sizes .new) (t .sizes .vectors) (t .new-next) → Fault t room 13
+pub data TablesFault (t : Tables) (room : ℕ) : ℕ → Type 0 where
+  range : OutOfRange (t .sizes) → TablesFault t room 11
+  short : TooShort t room → TablesFault t room 12
+  old-leads : LeadsOut (t .sizes .old) (t .sizes .vectors) (t .old-next) → TablesFault t room 13
+  new-leads : LeadsOut (t .sizes .new) (t .sizes .vectors) (t .new-next) → TablesFault t room 13

@@ -1,6 +1,6 @@
 -- The slices that a call over two tables is lent besides them: both scratch slices, and the one that it writes its answer to.
---   Lent              their lengths at entry: depth and reach are the two scratch slices, written is the mark or list slice; lent makes it
---   Left              what they hold at exit; left makes it
+--   Lent              their lengths at entry: depth and reach are the two scratch slices, written is the mark or list slice; lentOf makes it
+--   Left              what they hold at exit; leftOf makes it
 --   Tidy s e          scratch is all zero, and every slice is as long as it was
 --   Listed S list n   the first n bytes of the list slice have S, and all beyond them is 0
 use mathlib.Core.Path.{_≡_}
@@ -20,11 +20,11 @@ pub record Left : Type 0 where
   pub reach : List ℕ
   pub written : List ℕ
 
-abbrev pub lent : ℕ → ℕ → ℕ → Lent
-lent depth reach written = record { depth = depth; reach = reach; written = written }
+abbrev pub lentOf : ℕ → ℕ → ℕ → Lent
+lentOf depth reach written = record { depth = depth; reach = reach; written = written }
 
-abbrev pub left : List ℕ → List ℕ → List ℕ → Left
-left depth reach written = record { depth = depth; reach = reach; written = written }
+abbrev pub leftOf : List ℕ → List ℕ → List ℕ → Left
+leftOf depth reach written = record { depth = depth; reach = reach; written = written }
 
 -- "After any call scratch is all zero"
 pub record Tidy (s : Lent) (e : Left) : Type 0 where
