@@ -8,3 +8,4 @@ pub mod Promises
 pub mod Accepted
 pub mod Determined
 pub mod Empty
+pub mod Long

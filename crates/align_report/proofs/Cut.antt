@@ -1,0 +1,70 @@
+-- Input that is longer than any two images need not be read to its end: one byte more than two images have decides what is printed.
+use Prim.Native.Nat.{ℕ, _+_, _-_, _*_, _/_, _%_, _<_, _≤_}
+use mathlib.Core.Path.{_≡_, sym, _∙_, ap, subst}
+use mathlib.Core.List.{List}
+use native.Mathlib.Omega.{arith}
+use lib.ListN.{length, getD, take, drop, length-drop}
+use lib.Seq.{getD-take, getD-drop, take-take, length-take-le}
+use Rattle.numbers.specs.Meaning.Bits.{bitOf}
+use Rattle.memory.specs.Meaning.Refusals.{Free, Lowest}
+use Rattle.netlist.specs.Meaning.Limits.{mostBytes}
+use Rattle.netlist.proofs.Sizes.{bytes-le-most}
+use Rattle.image.specs.Meaning.Format.{bitAt, latchesIn, outputsIn, countIn, bytesIn}
+use Rattle.image.specs.Meaning.Faults.{ImageFault, HeaderFault}
+use Rattle.image.proofs.Refusals.{within-limits}
+use Rattle.image.proofs.Long.{SameFront, same-bytes-in, header-there, free-there, never-free, lowest-there}
+use Rattle.machine.specs.Meaning.Lent.{Lent}
+use Rattle.compare.specs.Meaning.Comparing.{TablesLent}
+use Rattle.align_report.specs.Meaning.Report.{oldBytes, newBytes, OldRefused, OldAccepted, Answers}
+
+-- one byte more than two images have
+abbrev pub mostRead : ℕ
+mostRead = 2 * mostBytes + 1
+
+same-bit : (b c : List ℕ) (i : ℕ) → getD b (i / 8) 0 ≡ getD c (i / 8) 0 → bitAt b i ≡ bitAt c i
+unfolding bitAt
+same-bit b c i e = ap (λ (x : ℕ). bitOf 8 x (i % 8)) e
+
+module _ (b : List ℕ) (long : mostRead ≤ length b) where
+  abbrev cut : List ℕ
+  cut = take mostRead b
+
+  size : length cut ≡ mostRead
+  size = length-take-le mostRead b long
+
+  whole : SameFront cut b
+  whole = record { long-one = omega (arith, size); long-other = omega arith; bits = λ i h. same-bit cut b i (getD-take mostRead b (i / 8) 0 (omega arith)) }
+
+  same-size : bytesIn cut ≡ bytesIn b
+  same-size = same-bytes-in whole
+
+  module _ (free : Free (HeaderFault cut)) where
+    few : bytesIn cut ≤ mostBytes
+    few = let w = within-limits free in bytes-le-most (countIn cut) (latchesIn cut) (outputsIn cut) (w .few-cells) (w .few-latches) (w .few-outputs)
+
+    same-old : oldBytes cut ≡ oldBytes b
+    same-old = take-take (bytesIn cut) mostRead b (omega (arith, few)) ∙ ap (λ (k : ℕ). take k b) same-size
+
+    behind : SameFront (newBytes cut) (newBytes b)
+    behind = record {
+      long-one = omega (arith, few, size, length-drop (bytesIn cut) cut);
+      long-other = omega (arith, few, same-size, length-drop (bytesIn b) b);
+      bits = λ i h. same-bit (newBytes cut) (newBytes b) i (byte (i / 8) (omega arith));
+    }
+      where
+        byte : (k : ℕ) → k < mostBytes → getD (newBytes cut) k 0 ≡ getD (newBytes b) k 0
+        byte k h =
+            getD-drop (bytesIn cut) cut k 0 ∙ getD-take mostRead b (bytesIn cut + k) 0 (omega (arith, few))
+            ∙ ap (λ (m : ℕ). getD b (m + k) 0) same-size ∙ sym (getD-drop (bytesIn b) b k 0)
+
+  old-accepted : OldAccepted cut → OldAccepted b
+  old-accepted a = record { header = free-there whole (a .header); image = subst (λ (l : List ℕ). Free (ImageFault l)) (same-old (a .header)) (a .image) }
+
+  old-refused : {k : ℕ} → OldRefused cut k → OldRefused b k
+  old-refused {k} (OldRefused.header l) = OldRefused.header (header-there whole l)
+  old-refused {k} (OldRefused.image f l) = OldRefused.image (free-there whole f) (subst (λ (c : List ℕ). Lowest (ImageFault c) k) (same-old f) l)
+
+  pub cut-input : (n : TablesLent) (s : Lent) (t : List ℕ) → Answers cut n s t → Answers b n s t
+  cut-input n s t (Answers.old-refused k r e) = Answers.old-refused k (old-refused r) e
+  cut-input n s t (Answers.new-refused k a l e) = Answers.new-refused k (old-accepted a) (lowest-there (behind (a .header)) l) e
+  cut-input n s t (Answers.designs a f d) = absurd (never-free (behind (a .header)) f)
