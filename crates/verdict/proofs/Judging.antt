@@ -58,7 +58,12 @@ module _ (t : Tables) (s : Lent) where
 pub judged-without : {t : Tables} {s : Lent} {e : Left} {n : ℕ} {r : Judged} → Judges t s e (Verdict.Refused n) → WithoutCounts n r → JudgesCounting t s e r
 judged-without j w = record { judges = rw (w .verdict) j; counts = rw (w .verdict) (w .alike, w .alignable) }
 
-pub judged-with : {t : Tables} {s : Lent} {e : Left} {depth reach : List ℕ} {r : Judged} (v : Verdict) → Judges t s e v → Mapped t depth reach → WithCounts (t .sizes) depth reach v r → JudgesCounting t s e r
-judged-with (Verdict.Same n) j m w = record { judges = rw (w .0) j; counts = rw (w .0) (map-counts m (w .1)) }
-judged-with (Verdict.Apart p n) j m w = record { judges = rw (w .0) j; counts = rw (w .0) (map-counts m (w .1)) }
-judged-with (Verdict.Refused n) j m w = judged-without j w
+with-counts : {t : Tables} {s : Lent} {e : Left} {depth reach : List ℕ} {r : Judged} (v : Verdict) → Judges t s e v → Mapped t depth reach → WithCounts (t .sizes) depth reach v r → JudgesCounting t s e r
+with-counts (Verdict.Same n) j m w = record { judges = rw (w .0) j; counts = rw (w .0) (map-counts m (w .1)) }
+with-counts (Verdict.Apart p n) j m w = record { judges = rw (w .0) j; counts = rw (w .0) (map-counts m (w .1)) }
+with-counts (Verdict.Refused n) j m w = judged-without j w
+
+pub judged-with : (t : Tables) (s : Lent) → Free (TablesFault t (min (s .depth) (s .reach))) → {depth₀ reach₀ depth reach written : List ℕ} {r : Judged} {w : ℕ} (v : Verdict) → Settled t w written v
+    → Both t depth₀ reach₀ → WithCounts (t .sizes) depth₀ reach₀ v r → Cleared (length depth₀) depth → Cleared (length reach₀) reach
+    → w ≡ s .written → length depth₀ ≡ s .depth → length reach₀ ≡ s .reach → length written ≡ w → JudgesCounting t s (leftOf depth reach written) r
+judged-with t s none v k m c a b ew ed er e = with-counts v (judged t s none k a b ew ed er e) (mapped none ed er m) c

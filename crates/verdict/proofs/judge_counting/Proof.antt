@@ -1,6 +1,6 @@
 -- `judge_counting`: turned away at once, or decided by the two maps.
 use mathlib.Core.Path.{refl}
-use Rattle.verdict.proofs.Judging.{judged-refused, enough, mapped, judged, judged-without, judged-with}
+use Rattle.verdict.proofs.Judging.{judged-refused, enough, mapped, judged-without, judged-with}
 use borrow.Author.Needs.{needs}
 use Rattle.verdict.proofs.judge_counting.Statement.{statement}
 use Rattle.verdict.proofs.judge_counting.Tie as tie
@@ -54,7 +54,7 @@ same-length-6 : tie.Need-same-length-6
 same-length-6 c = search needs
 
 returns-2 : tie.Need-returns-2
-returns-2 c = let none = (rw (c .before .before .before .before .before .before .before .before .before .before .before .before .before .before .before .before .before .before .before .before .before .before .before .before .before .before .before .before .before .shorter .ensures) at (c .before .before .before .before .before .before .before .before .before .before .before .before .before .before .before .before .before .before .before .before .before .before .before .before .before .before .before .before .call-fault .ensures)) .none (c .before .before .before .before .before .before .before .before .before .before .before .before .before .before .before .before .before .before .before .before .before .before .before .if1 .left) in judged-with (c .before .before .before .before .before .before .before .before .before .before .before .before .decide .result) (judged _ _ none (c .before .before .before .before .before .before .before .before .before .before .before .before .decide .ensures) (c .before .before .before .before .clear-scratch2 .ensures .0) (c .before .before .before .before .clear-scratch2 .ensures .1) (c .before .before .before .before .before .before .before .before .before .before .before .before .before .before .before .before .before .before .before .before .before .before .before .before .before .before .clear-bytes .ensures .size) (c .before .before .before .before .before .before .before .before .before .before .before .before .before .before .before .before .before .before .before .before .map-both .kept .1 .1 .1 .1 .1 .0) (c .before .before .before .before .before .before .before .before .before .before .before .before .before .before .before .before .before .before .before .before .map-both .kept .1 .1 .1 .1 .1 .1 .0) (c .before .before .before .before .before .before .before .before .before .before .before .before .decide .kept .1 .1 .1 .1 .1 .1 .1 .0)) (mapped none (c .before .before .before .before .before .before .before .before .before .before .before .before .before .before .before .before .before .before .before .before .map-both .kept .1 .1 .1 .1 .1 .0) (c .before .before .before .before .before .before .before .before .before .before .before .before .before .before .before .before .before .before .before .before .map-both .kept .1 .1 .1 .1 .1 .1 .0) (c .before .before .before .before .before .before .before .before .before .before .before .before .before .before .before .before .before .before .before .before .map-both .ensures)) (c .before .before .before .before .before .before .before .with-counts .ensures)
+returns-2 c = judged-with _ _ ((rw (c .before .before .before .before .before .before .before .before .before .before .before .before .before .before .before .before .before .before .before .before .before .before .before .before .before .before .before .before .before .shorter .ensures) at (c .before .before .before .before .before .before .before .before .before .before .before .before .before .before .before .before .before .before .before .before .before .before .before .before .before .before .before .before .call-fault .ensures)) .none (c .before .before .before .before .before .before .before .before .before .before .before .before .before .before .before .before .before .before .before .before .before .before .before .if1 .left)) (c .before .before .before .before .before .before .before .before .before .before .before .before .decide .result) (c .before .before .before .before .before .before .before .before .before .before .before .before .decide .ensures) (c .before .before .before .before .before .before .before .before .before .before .before .before .before .before .before .before .before .before .before .before .map-both .ensures) (c .before .before .before .before .before .before .before .with-counts .ensures) (c .before .before .before .before .clear-scratch2 .ensures .0) (c .before .before .before .before .clear-scratch2 .ensures .1) (c .before .before .before .before .before .before .before .before .before .before .before .before .before .before .before .before .before .before .before .before .before .before .before .before .before .before .clear-bytes .ensures .size) (c .before .before .before .before .before .before .before .before .before .before .before .before .before .before .before .before .before .before .before .before .map-both .kept .1 .1 .1 .1 .1 .0) (c .before .before .before .before .before .before .before .before .before .before .before .before .before .before .before .before .before .before .before .before .map-both .kept .1 .1 .1 .1 .1 .1 .0) (c .before .before .before .before .before .before .before .before .before .before .before .before .decide .kept .1 .1 .1 .1 .1 .1 .1 .0)
 
 pub judge-counting-spec : {M : Type 1} → statement M
 judge-counting-spec =
