@@ -1,4 +1,4 @@
 pub mod Comparing
-pub mod Counting
 pub mod Designs
 pub mod Images
+pub mod Refusals
