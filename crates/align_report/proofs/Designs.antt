@@ -17,10 +17,11 @@ use Rattle.machine.proofs.Numbers.{same-pair}
 use Rattle.machine.proofs.Transfer.{same-back, same-closed}
 use Rattle.machine.specs.Meaning.Lent.{Lent, Left}
 use Rattle.verdict.specs.declared.Verdict.{Verdict}
+use Rattle.verdict.specs.declared.Judged.{Judged}
 use Rattle.verdict.specs.Meaning.Decision.{verdictReply}
 use Rattle.verdict.proofs.Verdict as verdict
 use Rattle.compare.specs.Meaning.Designs.{machineOf, sizesOf}
-use Rattle.compare.specs.Meaning.Comparing.{TablesLent, TablesLeft, tablesLeftOf, Compares}
+use Rattle.compare.specs.Meaning.Comparing.{TablesLent, TablesLeft, tablesLeftOf, Compares, ComparesCounting}
 use Rattle.compare.proofs.Agreement.{tables-agree}
 use Rattle.report.specs.declared.Facts.{Facts}
 use Rattle.report.specs.declared.Side.the-variants.{Both}
@@ -28,7 +29,7 @@ use Rattle.report.specs.Meaning.Text.{refusalText, sameText, apartText, apartIn
 use Rattle.report.proofs.Listing.{apart-same}
 use Rattle.align_report.specs.Meaning.Report.{FactsOf, AnswersDesigns}
 use Rattle.align_report.specs.Working.Tabled.{numberOf, ReportsDesigns}
-use Rattle.align_report.proofs.Comparing.{same-inputs}
+use Rattle.align_report.proofs.Comparing.{same-inputs, found-same, found-apart}
 
 module _ {a b : Design} {n : TablesLent} {s : Lent} {t : TablesLeft} {e : Left} {text′ : List ℕ} {r : ℕ} where
   -- neither Same nor Apart
@@ -40,13 +41,20 @@ module _ {a b : Design} {n : TablesLent} {s : Lent} {t : TablesLeft} {e : Left} 
   prints-refused (Verdict.Apart p m) w g (inr h) i q = absurd (omega arith)
   prints-refused (Verdict.Refused k) w g h i q = record { answers = AnswersDesigns.refused k (w .keeps .0) (rw (← i) (q .is)); counts = q .counts }
 
-  pub prints-same : {m : ℕ} {f : Facts} → Compares a b n s t e (Verdict.Same m) → FactsOf a b f → Printed (sameText f (take m (e .written))) text′ r → ReportsDesigns a b n s text′ r
-  prints-same w f q = record { answers = AnswersDesigns.same (w .keeps .0) _ f _ (w .keeps .1 .decided .sought) (q .is); counts = q .counts }
+  pub prints-same : {j : Judged} {m : ℕ} {f : Facts} → ComparesCounting a b n s t e j → j .verdict ≡ Verdict.Same m → FactsOf a b f
+      → Printed (sameText f (take m (e .written))) text′ r → ReportsDesigns a b n s text′ r
+  prints-same c is f q =
+      let w = found-same c is in
+      record { answers = AnswersDesigns.same (w .keeps .0) _ f _ (w .keeps .1 .decided .sought) (q .is); counts = q .counts }
 
 -- tables print what the designs show
-module _ {a b : Design} {n : TablesLent} {s : Lent} {next0 out0 next1 out1 : List ℕ} {e : Left} {p : Pair} {m : ℕ} (w : Compares a b n s (tablesLeftOf next0 out0 next1 out1) e (Verdict.Apart p m)) where
+module _ {a b : Design} {n : TablesLent} {s : Lent} {next0 out0 next1 out1 : List ℕ} {e : Left} {j : Judged} {p : Pair} {m : ℕ}
+    (c : ComparesCounting a b n s (tablesLeftOf next0 out0 next1 out1) e j) (is : j .verdict ≡ Verdict.Apart p m) where
   abbrev t : Tables
   t = bothTables (sizesOf a b) next0 out0 next1 out1
+
+  w : Compares a b n s (tablesLeftOf next0 out0 next1 out1) e (Verdict.Apart p m)
+  w = found-apart c is
 
   agree : SameSteps (sizesOf a b) (oldMachine t) (newMachine t) (machineOf a) (machineOf b)
   agree = tables-agree a b next0 out0 next1 out1 (same-inputs (w .keeps .0)) (w .keeps .1 .old) (w .keeps .1 .new)
