@@ -20,7 +20,6 @@ fn main() {
     let mut new_out = [0u8; ENTRIES];
     let mut depth = [0u16; PAIRS];
     let mut reach = [0u16; PAIRS];
-    let mut marks = [0u8; PAIRS];
     let mut list = [0u8; STEPS];
     let mut text = [0u8; TEXT];
     let length = align_report::write_report(
@@ -31,7 +30,6 @@ fn main() {
         &mut new_out,
         &mut depth,
         &mut reach,
-        &mut marks,
         &mut list,
         &mut text,
     );

@@ -1,5 +1,5 @@
 pub mod Comparing
-pub mod Counting
 pub mod Designs
 pub mod Images
 pub mod Cut
+pub mod Refusals

@@ -3,9 +3,6 @@ ghost use mathlib.Core.Path.{_≡_};
 ghost use Rattle.image.specs.Meaning.Reading.{lengthReply, readReply, emptyDesign};
 ghost use Rattle.verdict.specs.Meaning.Decision.{verdictReply};
 ghost use Rattle.align_report.specs.Working.Tabled.{numberOf};
-use crate::Counted;
-use engine::MappedAlignable;
-use engine::MappedAlike;
 use image::Answer;
 use image::Length;
 use verdict::Verdict;
@@ -35,26 +32,5 @@ pub fn verdict(r: Verdict) -> u8
         Verdict::Same(_) => 0,
         Verdict::Apart(_, _) => 0,
         Verdict::Refused(number) => number,
-    }
-}
-
-pub fn alike(r: MappedAlike) -> u8 {
-    match r {
-        MappedAlike::Marked { count: _, round: _ } => 0,
-        MappedAlike::Refused(number) => number,
-    }
-}
-
-pub fn alignable(r: MappedAlignable) -> u8 {
-    match r {
-        MappedAlignable::Marked(_) => 0,
-        MappedAlignable::Refused(number) => number,
-    }
-}
-
-pub fn counted(r: Counted) -> u8 {
-    match r {
-        Counted::Facts(_) => 0,
-        Counted::Refused(number) => number,
     }
 }

@@ -29,7 +29,6 @@ fn main() {
     let mut new_out = [9u8; ENTRIES];
     let mut depth = [9u16; PAIRS];
     let mut reach = [9u16; PAIRS];
-    let mut marks = [9u8; PAIRS];
     let mut list = [9u8; STEPS];
     let mut text = [9u8; TEXT];
     show_all(
@@ -41,7 +40,6 @@ fn main() {
         &mut new_out,
         &mut depth,
         &mut reach,
-        &mut marks,
         &mut list,
         &mut text,
     );
@@ -57,12 +55,10 @@ fn show_all(
     new_out: &mut [u8],
     depth: &mut [u16],
     reach: &mut [u16],
-    marks: &mut [u8],
     list: &mut [u8],
     text: &mut [u8],
 )
     requires { ⌜ 400 + 12 * length (now list) ≤ length (now text) ⌝ }
-    requires { ⌜ 16384 ≤ length (now marks) ⌝ }
 {
     let mut at = 0;
     while at < all.len() {
@@ -76,7 +72,6 @@ fn show_all(
             new_out,
             depth,
             reach,
-            marks,
             list,
             text,
         );
@@ -94,12 +89,10 @@ fn show(
     new_out: &mut [u8],
     depth: &mut [u16],
     reach: &mut [u16],
-    marks: &mut [u8],
     list: &mut [u8],
     text: &mut [u8],
 )
     requires { ⌜ 400 + 12 * length (now list) ≤ length (now text) ⌝ }
-    requires { ⌜ 16384 ≤ length (now marks) ⌝ }
 {
     let colon = lines::find(line, 0, b':');
     io::write_all(1, &line[..colon]);
@@ -114,7 +107,6 @@ fn show(
         new_out,
         depth,
         reach,
-        marks,
         &mut list[..bytes],
         text,
     );

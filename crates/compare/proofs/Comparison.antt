@@ -1,11 +1,14 @@
--- The promise of `compare`, from those of the tabulating call and of the verdict on its tables.
+-- The promise of `compare_counting`, from those of the tabulating call and of the verdict on its tables.
 use Prim.Native.Nat.{ℕ, _<_, _≤_, min}
 use mathlib.Core.Path.{_≡_, _∙_, refl, subst}
-use mathlib.Core.List.{List}
+use mathlib.Core.Logic.{inl, inr}
+use mathlib.Core.List.{List, [], _∷_}
 use native.Mathlib.Omega.{arith}
 use lib.ListN.{length}
+use types.Run.{OneOf}
+use denote.Enum.Declared.{tagOf}
 use Rattle.numbers.proofs.Order.{stable, le-of-not-lt}
-use Rattle.memory.specs.Meaning.Refusals.{Free, refusal}
+use Rattle.memory.specs.Meaning.Refusals.{Free, Reply, answer, refusal}
 use Rattle.memory.specs.Meaning.Slices.{Cleared}
 use Rattle.netlist.specs.declared.Design.{Design}
 use Rattle.netlist.specs.Meaning.Faults.{Accepted}
@@ -17,16 +20,19 @@ use Rattle.machine.specs.declared.Sizes.{Sizes}
 use Rattle.machine.specs.Meaning.Machine.{Machine}
 use Rattle.machine.specs.Meaning.Tables.{Tables, bothTables, oldMachine, newMachine}
 use Rattle.machine.specs.Working.Pairs.{SameSteps}
-use Rattle.machine.proofs.Transfer.{same-back, same-there, is-apart-there, written-there}
+use Rattle.machine.proofs.Transfer.{same-back, same-there, is-apart-there, written-there, alike-there, alignable-there}
+use Rattle.machine.proofs.Counting as C
 use Rattle.machine.specs.Meaning.Faults.{TablesFault, TooShort}
 use Rattle.machine.specs.Meaning.Lent.{Lent, Left, leftOf}
 use Rattle.verdict.specs.declared.Verdict.{Verdict}
-use Rattle.verdict.specs.Meaning.Decision.{Decision, Decided, ShortList, short}
+use Rattle.verdict.specs.declared.Judged.{Judged}
+use Rattle.verdict.specs.Meaning.Decision.{Decision, verdictReply, Decided, CountsBeside, ShortList, short}
 use Rattle.verdict.specs.Meaning.Decision as D
-use Rattle.verdict.specs.Meaning.Promise.{JudgeFault}
+use Rattle.verdict.specs.Meaning.Promise.{JudgeFault, Judges}
+use Rattle.verdict.proofs.Verdict as verdict
 use Rattle.compare.specs.Meaning.Designs.{machineOf, sizesOf}
-use Rattle.compare.specs.Meaning.Comparing.{TablesLent, TablesLeft, tablesLeftOf, CompareFault, Compared, TablesKept, Compares}
-use Rattle.compare.specs.Working.Judging.{JudgedOrCleared}
+use Rattle.compare.specs.Meaning.Comparing.{TablesLent, TablesLeft, tablesLeftOf, CompareFault, Compared, TablesKept, Compares, ComparesCounting}
+use Rattle.compare.specs.Working.Judging.{KeptOrCleared, JudgedOrCleared}
 use Rattle.compare.proofs.Agreement.{tables-agree, tables-fault}
 
 -- what is decided of one description of two designs is decided of the other
@@ -39,6 +45,20 @@ short-there e k _ (short l w h) = short l (written-there e l w) h
 
 short-16 : {z : Sizes} {m0 m1 : Machine} {k n : ℕ} → ShortList m0 m1 z k n → n ≡ 16
 short-16 (short l w h) = refl
+
+counts-there : {z : Sizes} {m0 m1 n0 n1 : Machine} → SameSteps z m0 m1 n0 n1 → (x : Reply Decision) (n k : ℕ) → CountsBeside m0 m1 z x n k → CountsBeside n0 n1 z x n k
+counts-there e (answer x) n k c = record {
+  alike = C.counts-there (alike-there e) (alike-there (same-back e)) (c .alike);
+  alignable = C.counts-there (alignable-there e) (alignable-there (same-back e)) (c .alignable);
+}
+counts-there e (refusal m) n k c = c
+
+-- beside an answer the tables stay
+pub tables-kept : (t : Tables) (v : Verdict) → OneOf (0 ∷ 1 ∷ []) (tagOf verdict.the-type v) → KeptOrCleared t (tablesLeftOf (t .old-next) (t .old-out) (t .new-next) (t .new-out)) (verdictReply v)
+tables-kept t (Verdict.Same n) h = refl
+tables-kept t (Verdict.Apart p n) h = refl
+tables-kept t (Verdict.Refused n) (inl h) = absurd (omega arith)
+tables-kept t (Verdict.Refused n) (inr h) = absurd (omega arith)
 
 -- nothing but 12 of scratch and 16 of the list is left where tabulating was not refused
 module _ (a b : Design) (n : TablesLent) (s : Lent) (next0 out0 next1 out1 : List ℕ)
@@ -81,36 +101,37 @@ module _ (a b : Design) (n : TablesLent) (s : Lent) (next0 out0 next1 out1 : Lis
   kept : (t : TablesLeft) → t ≡ tablesLeftOf next0 out0 next1 out1 → TablesKept n t
   kept t q = rw q (record { old-next = size0; old-out = size1; new-next = size2; new-out = size3 })
 
-  compared : (t : TablesLeft) (e : Left) (r : Verdict) → JudgedOrCleared Both s t e r → Compares a b n s t e r
-  compared t e (Verdict.Same m) j = record {
-    keeps = (λ k f. j .judges .keeps .0 k (fault-back k f), answered t e (D.same m) (j .tables) (j .judges .keeps .1));
-    tidy = j .judges .tidy;
-    tables = kept t (j .tables);
+  compared : (t : TablesLeft) (e : Left) (r : Verdict) → Judges Both s e r → KeptOrCleared Both t (verdictReply r) → Compares a b n s t e r
+  compared t e (Verdict.Same m) j c = record {
+    keeps = (λ k f. j .keeps .0 k (fault-back k f), answered t e (D.same m) c (j .keeps .1));
+    tidy = j .tidy;
+    tables = kept t c;
   }
-  compared t e (Verdict.Apart p m) j = record {
-    keeps = (λ k f. j .judges .keeps .0 k (fault-back k f), answered t e (D.apart p m) (j .tables) (j .judges .keeps .1));
-    tidy = j .judges .tidy;
-    tables = kept t (j .tables);
+  compared t e (Verdict.Apart p m) j c = record {
+    keeps = (λ k f. j .keeps .0 k (fault-back k f), answered t e (D.apart p m) c (j .keeps .1));
+    tidy = j .tidy;
+    tables = kept t c;
   }
-  compared t e (Verdict.Refused m) j =
-      let c = j .tables in
-      record {
-        keeps = (record { applies = fault-there m (j .judges .keeps .0 .applies); lower = λ k l f. j .judges .keeps .0 .lower k l (fault-back k f) }, record { old = zero-tables (c .0 .0) (c .0 .1); new = zero-tables (c .1 .0) (c .1 .1); list = j .judges .keeps .1 });
-        tidy = j .judges .tidy;
-        tables = record { old-next = c .0 .0 .size ∙ size0; old-out = c .0 .1 .size ∙ size1; new-next = c .1 .0 .size ∙ size2; new-out = c .1 .1 .size ∙ size3 };
-      }
+  compared t e (Verdict.Refused m) j c = record {
+    keeps = (record { applies = fault-there m (j .keeps .0 .applies); lower = λ k l f. j .keeps .0 .lower k l (fault-back k f) }, record { old = zero-tables (c .0 .0) (c .0 .1); new = zero-tables (c .1 .0) (c .1 .1); list = j .keeps .1 });
+    tidy = j .tidy;
+    tables = record { old-next = c .0 .0 .size ∙ size0; old-out = c .0 .1 .size ∙ size1; new-next = c .1 .0 .size ∙ size2; new-out = c .1 .1 .size ∙ size3 };
+  }
+
+  counted : (t : TablesLeft) (e : Left) (r : Judged) → JudgedOrCleared Both s t e r → ComparesCounting a b n s t e r
+  counted t e r j = record { compares = compared t e (r .verdict) (j .judges .judges) (j .tables); counts = counts-there agree (verdictReply (r .verdict)) (r .alike) (r .alignable) (j .judges .counts) }
 
 -- the two calls one after the other
-pub compared-both : (a b : Design) (n : TablesLent) (s : Lent) (s0 s1 v : ℕ) (next0 out0 next1 out1 : List ℕ) (t : TablesLeft) (e : Left) (r : Verdict)
+pub compared-both : (a b : Design) (n : TablesLent) (s : Lent) (s0 s1 v : ℕ) (next0 out0 next1 out1 : List ℕ) (t : TablesLeft) (e : Left) (r : Judged)
     → TabulatesBoth a b (n .old-next) (n .old-out) (n .new-next) (n .new-out) (TabulatedBoth.Both s0 s1 v) next0 out0 next1 out1
-    → JudgedOrCleared (bothTables (record { old = s0; new = s1; vectors = v }) next0 out0 next1 out1) s t e r → Compares a b n s t e r
+    → JudgedOrCleared (bothTables (record { old = s0; new = s1; vectors = v }) next0 out0 next1 out1) s t e r → ComparesCounting a b n s t e r
 compared-both a b n s s0 s1 v next0 out0 next1 out1 t e r w j =
     let k = w .keeps .1 in
     let p = k .old-states in
     let q = k .new-states in
     let u = k .vectors in
     let z : _≡_ {A = Sizes} (record { old = s0; new = s1; vectors = v }) (sizesOf a b) = cc in
-    compared a b n s next0 out0 next1 out1 (w .keeps .0) (w .size-next0) (w .size-out0) (w .size-next1) (w .size-out1) (k .old) (k .new) t e r
+    counted a b n s next0 out0 next1 out1 (w .keeps .0) (w .size-next0) (w .size-out0) (w .size-next1) (w .size-out1) (k .old) (k .new) t e r
     (subst (λ (x : Sizes). JudgedOrCleared (bothTables x next0 out0 next1 out1) s t e r) z j)
 
 -- a refusal of the tabulating call: nothing above 12 is lower
@@ -127,14 +148,17 @@ both-most (BothFault.interface (InterfaceFault.other-outputs d)) = omega arith
 pub refused-first : (a b : Design) (n : TablesLent) (s : Lent) (k : ℕ) (next0 out0 next1 out1 depth reach written : List ℕ)
     → TabulatesBoth a b (n .old-next) (n .old-out) (n .new-next) (n .new-out) (TabulatedBoth.Refused k) next0 out0 next1 out1
     → Cleared (s .depth) depth → Cleared (s .reach) reach → Cleared (s .written) written
-    → Compares a b n s (tablesLeftOf next0 out0 next1 out1) (leftOf depth reach written) (Verdict.Refused k)
-refused-first a b n s k next0 out0 next1 out1 depth reach written w x y z = record {
-  keeps = (record { applies = CompareFault.tabulating (w .keeps .0 .applies); lower = lower }, record { old = w .keeps .1 .0; new = w .keeps .1 .1; list = z .zero });
-  tidy = record { depth = x; reach = y; written = z .size };
-  tables = record { old-next = w .size-next0; old-out = w .size-out0; new-next = w .size-next1; new-out = w .size-out1 };
-}
+    → ComparesCounting a b n s (tablesLeftOf next0 out0 next1 out1) (leftOf depth reach written) (record { verdict = Verdict.Refused k; alike = 0; alignable = 0 })
+refused-first a b n s k next0 out0 next1 out1 depth reach written w x y z = record { compares = refused; counts = (refl, refl) }
   where
     lower : (m : ℕ) → m < k → CompareFault a b n s m → ⊥
     lower m h (CompareFault.tabulating f) = w .keeps .0 .lower m h f
     lower m h (CompareFault.scratch l) = omega (arith, both-most (w .keeps .0 .applies))
     lower m h (CompareFault.list f) = omega (arith, both-most (w .keeps .0 .applies), short-16 f)
+
+    refused : Compares a b n s (tablesLeftOf next0 out0 next1 out1) (leftOf depth reach written) (Verdict.Refused k)
+    refused = record {
+      keeps = (record { applies = CompareFault.tabulating (w .keeps .0 .applies); lower = lower }, record { old = w .keeps .1 .0; new = w .keeps .1 .1; list = z .zero });
+      tidy = record { depth = x; reach = y; written = z .size };
+      tables = record { old-next = w .size-next0; old-out = w .size-out0; new-next = w .size-next1; new-out = w .size-out1 };
+    }

@@ -7,6 +7,7 @@ pub mod Pairs
 pub mod Traces
 pub mod Rounds
 pub mod Numbers
+pub mod Counting
 pub mod Finding
 pub mod Telling
 pub mod Verdict

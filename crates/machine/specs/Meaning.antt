@@ -3,6 +3,7 @@ pub mod Lists
 pub mod Machine
 pub mod Rounds
 pub mod Tables
+pub mod Counts
 pub mod Lent
 pub mod Faults
 pub mod Verdict

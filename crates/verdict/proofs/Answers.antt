@@ -37,13 +37,16 @@ module _ (t : Tables) where
   m1 = newMachine t
 
   module _ {depth reach : List ℕ} (m : Mapped t depth reach) where
-    alignable : (p : Pair) → In z p → 0 < at z reach p → AlignableIn t p
-    alignable p i s = ⊎-elim (λ e. absurd (omega arith)) (λ q. let y = m .both .alike .map .dist p i (q .0) (q .1) in record { list = y .list; leads = y .leads }) (zero-or (at z reach p))
+    pub alignable-of-some : (p : Pair) → In z p → 0 < at z reach p → AlignableIn t p
+    alignable-of-some p i s = ⊎-elim (λ e. absurd (omega arith)) (λ q. let y = m .both .alike .map .dist p i (q .0) (q .1) in record { list = y .list; leads = y .leads }) (zero-or (at z reach p))
+
+    pub some-of-alignable : (p : Pair) → In z p → AlignableIn t p → 0 < at z reach p
+    some-of-alignable p i a = ⊎-elim (λ e. absurd (m .both .alike .map .none p i e (a .list) (a .leads))) (λ q. omega (arith, q .1)) (zero-or (at z reach p))
 
     module _ {r : Pair} (s : LowestZero z reach r) where
       -- the scan stopped at a pair: it is the lowest that is not alignable
       pub apart-of : r .old < z .old → LowestApart m0 m1 z r
-      apart-of h = record { inside = s .found h .0; apart = λ a. m .both .alike .map .none r (s .found h .0) (s .found h .1) (a .list) (a .leads); lower = λ q i l. alignable q i (go q i l (tri (q .old) (r .old))) }
+      apart-of h = record { inside = s .found h .0; apart = λ a. m .both .alike .map .none r (s .found h .0) (s .found h .1) (a .list) (a .leads); lower = λ q i l. alignable-of-some q i (go q i l (tri (q .old) (r .old))) }
         where
           go : (q : Pair) → In z q → number z q < number z r → (q .old < r .old) ⊎ ((q .old ≡ r .old) ⊎ (r .old < q .old)) → 0 < at z reach q
           go q i l (inl a) = s .rows q i a
@@ -52,7 +55,7 @@ module _ (t : Tables) where
 
       -- the scan passed all pairs: each is alignable
       pub all-align : z .old ≤ r .old → AllAlignIn t
-      all-align h = record { all = λ p i. alignable p i (s .rows p i (omega (arith, i .in-old))) }
+      all-align h = record { all = λ p i. alignable-of-some p i (s .rows p i (omega (arith, i .in-old))) }
 
   -- 16 applies where the list is longer than the slice, and nothing where it fits
   too-long : {n : ℕ} (l : List ℕ) → VerdictList m0 m1 z l → n < length l → Lowest (ShortList m0 m1 z n) 16

@@ -1,4 +1,4 @@
--- The promise of `judge`, for a call that is turned away at once and for one that is not.
+-- The promises of `judge` and `judge_counting`, for a call that is turned away at once and for one that is not.
 use mathlib.Core.Path.{_≡_, _∙_}
 use mathlib.Core.Logic.{_⊎_, inl, inr}
 use mathlib.Core.List.{List}
@@ -10,13 +10,15 @@ use Rattle.memory.specs.Meaning.Slices.{Zero, Cleared}
 use Rattle.memory.proofs.Refusals.{lowest-first, keeps-second}
 use Rattle.machine.specs.Meaning.Tables.{Tables, pairs, oldMachine, newMachine}
 use Rattle.machine.specs.Meaning.Faults.{TablesFault}
-use Rattle.machine.specs.Meaning.Lent.{Lent, leftOf}
+use Rattle.machine.specs.Meaning.Lent.{Lent, Left, leftOf}
 use Rattle.seek.specs.Working.Steps.{Good, Both}
 use Rattle.seek.proofs.Refusals.{fault-most, good, room-enough}
 use Rattle.verdict.specs.declared.Verdict.{Verdict}
+use Rattle.verdict.specs.declared.Judged.{Judged}
 use Rattle.verdict.specs.Meaning.Decision.{verdictReply, Decided, ShortList, short}
-use Rattle.verdict.specs.Meaning.Promise.{JudgeFault, call, list, Judges}
-use Rattle.verdict.specs.Working.Marks.{Mapped, Settled}
+use Rattle.verdict.specs.Meaning.Promise.{JudgeFault, call, list, Judges, JudgesCounting}
+use Rattle.verdict.specs.Working.Marks.{Mapped, Settled, WithoutCounts, WithCounts}
+use Rattle.verdict.proofs.Tallies.{map-counts}
 
 -- a call that is not turned away: tables and scratch of a and b entries serve for both maps
 module _ {t : Tables} {a b : ℕ} (none : Free (TablesFault t (min a b))) where
@@ -51,3 +53,17 @@ module _ (t : Tables) (s : Lent) where
       keeps = keeps-second Room Short (JudgeFault t s) (λ m x. call x) (λ m x. list x) either (Decided (oldMachine t) (newMachine t) (t .sizes) written) (Zero written) none (verdictReply r) (rw ew at (k .keeps));
       tidy = record { depth = rw ed at a; reach = rw er at b; written = e ∙ ew };
     }
+
+-- with the counts, which a refusal leaves out
+pub judged-without : {t : Tables} {s : Lent} {e : Left} {n : ℕ} {r : Judged} → Judges t s e (Verdict.Refused n) → WithoutCounts n r → JudgesCounting t s e r
+judged-without j w = record { judges = rw (w .verdict) j; counts = rw (w .verdict) (w .alike, w .alignable) }
+
+with-counts : {t : Tables} {s : Lent} {e : Left} {depth reach : List ℕ} {r : Judged} (v : Verdict) → Judges t s e v → Mapped t depth reach → WithCounts (t .sizes) depth reach v r → JudgesCounting t s e r
+with-counts (Verdict.Same n) j m w = record { judges = rw (w .0) j; counts = rw (w .0) (map-counts m (w .1)) }
+with-counts (Verdict.Apart p n) j m w = record { judges = rw (w .0) j; counts = rw (w .0) (map-counts m (w .1)) }
+with-counts (Verdict.Refused n) j m w = judged-without j w
+
+pub judged-with : (t : Tables) (s : Lent) → Free (TablesFault t (min (s .depth) (s .reach))) → {depth₀ reach₀ depth reach written : List ℕ} {r : Judged} {w : ℕ} (v : Verdict) → Settled t w written v
+    → Both t depth₀ reach₀ → WithCounts (t .sizes) depth₀ reach₀ v r → Cleared (length depth₀) depth → Cleared (length reach₀) reach
+    → w ≡ s .written → length depth₀ ≡ s .depth → length reach₀ ≡ s .reach → length written ≡ w → JudgesCounting t s (leftOf depth reach written) r
+judged-with t s none v k m c a b ew ed er e = with-counts v (judged t s none k a b ew ed er e) (mapped none ed er m) c

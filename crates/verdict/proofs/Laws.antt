@@ -1,12 +1,12 @@
--- What the promise of `judge` shuts out: a refusal without a number, and two answers to one call. And 16 is measured on a list that
--- there always is.
-use mathlib.Core.Path.{_≡_, sym, ap, _∙_}
+-- What the promises of `judge` and `judge_counting` shut out: a refusal without a number, and two answers to one call. And 16 is
+-- measured on a list that there always is.
+use mathlib.Core.Path.{_≡_, sym, ap, _∙_, subst}
 use mathlib.Core.List.{List}
 use Prim.Native.Nat.{ℕ, _<_, min}
 use native.Mathlib.Omega.{arith}
 use lib.ListN.{length, take}
 use lib.Seq.{length-take-le}
-use Rattle.memory.specs.Meaning.Refusals.{Free, answer, refusal}
+use Rattle.memory.specs.Meaning.Refusals.{Free, Reply, answer, refusal}
 use Rattle.memory.specs.Meaning.Slices.{Zero}
 use Rattle.memory.proofs.Refusals.{kept-unique}
 use Rattle.memory.proofs.Slices.{zero-unique}
@@ -19,13 +19,15 @@ use Rattle.machine.specs.Meaning.Verdict as W
 use Rattle.machine.specs.Working.Pairs.{Closed}
 use Rattle.machine.proofs.Verdict.{written-unique, apart-unique, same-not-apart}
 use Rattle.machine.proofs.Written.{written-exists}
+use Rattle.machine.proofs.Counting.{counts-unique}
 use Rattle.machine.specs.Meaning.Faults.{TablesFault}
 use Rattle.machine.specs.Meaning.Lent.{Lent, Left}
 use Rattle.seek.proofs.Refusals.{fault-some, good}
 use Rattle.seek.proofs.Sets.{inside}
 use Rattle.verdict.specs.declared.Verdict.{Verdict}
-use Rattle.verdict.specs.Meaning.Decision.{Decision, same, apart, verdictReply, stepsOf, Says, Decided, short}
-use Rattle.verdict.specs.Meaning.Promise.{JudgeFault, call, list, Judges}
+use Rattle.verdict.specs.declared.Judged.{Judged}
+use Rattle.verdict.specs.Meaning.Decision.{Decision, same, apart, verdictReply, stepsOf, Says, Decided, CountsBeside, short}
+use Rattle.verdict.specs.Meaning.Promise.{JudgeFault, call, list, Judges, JudgesCounting}
 
 -- an answer is known by its reply
 pub reply-one : (q r : Verdict) → verdictReply q ≡ verdictReply r → q ≡ r
@@ -106,3 +108,14 @@ module _ (t : Tables) (s : Lent) where
 
     pub verdict-unique : q ≡ r
     verdict-unique = reply-one q r (judges-unique .0)
+
+-- nor two answers with their counts
+counts-one : (m0 m1 : Machine) (z : Sizes) {a b c d : ℕ} (x : Reply Decision) → CountsBeside m0 m1 z x a b → CountsBeside m0 m1 z x c d → (a ≡ c) × (b ≡ d)
+counts-one m0 m1 z (answer x) p q = (counts-unique (p .alike) (q .alike), counts-unique (p .alignable) (q .alignable))
+counts-one m0 m1 z (refusal n) p q = (p .0 ∙ sym (q .0), p .1 ∙ sym (q .1))
+
+pub judged-unique : {t : Tables} {s : Lent} {d e : Left} {q r : Judged} → JudgesCounting t s d q → JudgesCounting t s e r → q ≡ r
+judged-unique {t} {s} {d} {e} {q} {r} j k =
+    let v : q .verdict ≡ r .verdict = verdict-unique t s (j .judges) (k .judges) in
+    let n = counts-one (oldMachine t) (newMachine t) (t .sizes) (verdictReply (r .verdict)) (subst (λ (x : Verdict). CountsBeside (oldMachine t) (newMachine t) (t .sizes) (verdictReply x) (q .alike) (q .alignable)) v (j .counts)) (k .counts) in
+    λ i. record { verdict = v i; alike = n .0 i; alignable = n .1 i }

@@ -3,5 +3,6 @@ pub mod Parts
 pub mod Scanning
 pub mod Aligning
 pub mod Answers
+pub mod Tallies
 pub mod Judging
 pub mod Laws

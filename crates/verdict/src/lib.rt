@@ -1,17 +1,19 @@
 // The verdict on two designs. Where some pair of states is not alignable, the lowest such pair is named, with its trace. Else a list
 // that aligns every pair is built in rounds, over the states that each design may be in: the pairs in which both may be are all pairs of
 // these. Each round takes the lowest of them that is not alike, appends its list, and moves the states of both designs on by it.
+ghost use mathlib.Core.Path.{_≡_};
 ghost use Prim.Native.Nat.{ℕ, _+_, _*_, _<_, _≤_};
 ghost use lib.ListN.{length, getD};
 ghost use lib.Seq.{slice};
+ghost use Rattle.numbers.specs.Meaning.Count.{countOf};
 ghost use Rattle.memory.specs.Meaning.Slices.{Zero};
 ghost use Rattle.machine.specs.Meaning.Lists.{run};
 ghost use Rattle.machine.specs.Meaning.Tables.{bothTables, pairs, In, AlikeIn, AlignableIn};
 ghost use Rattle.search.specs.Working.{Few, LowestBelow};
 ghost use Rattle.machine.specs.Meaning.Lent.{lentOf, leftOf};
 ghost use Rattle.seek.specs.Working.Steps.{Good, MapFor, Outcome};
-ghost use Rattle.verdict.specs.Meaning.Promise.{Judges};
-ghost use Rattle.verdict.specs.Working.Marks.{AllAlignIn, SameIn, nextOf, Leading, Image, OpenAt, LowestZero, Mapped, Appended, Settled};
+ghost use Rattle.verdict.specs.Meaning.Promise.{Judges, JudgesCounting};
+ghost use Rattle.verdict.specs.Working.Marks.{AllAlignIn, SameIn, nextOf, Leading, Image, OpenAt, LowestZero, Mapped, Appended, Settled, WithoutCounts, WithCounts};
 use machine::Found;
 use machine::Pair;
 use machine::Sizes;
@@ -21,6 +23,13 @@ pub enum Verdict {
     Same(usize),
     Apart(Pair, usize),
     Refused(u8),
+}
+
+// A verdict, and how many pairs are alike and how many alignable; beside a refusal both are 0.
+pub struct Judged {
+    pub verdict: Verdict,
+    pub alike: usize,
+    pub alignable: usize,
 }
 
 // The verdict on the designs of the tables, with its list or trace.
@@ -36,12 +45,38 @@ pub fn judge(
 ) -> Verdict
     ensures { λ r. ⌜ Judges (bothTables sizes (now («old_next» .entry)) (now («old_out» .entry)) (now («new_next» .entry)) (now («new_out» .entry))) (lentOf (length (now (depth .entry))) (length (now (reach .entry))) (length (now (list .entry)))) (leftOf (now (depth .exit)) (now (reach .exit)) (now (list .exit))) r ⌝ }
 {
+    let judged = judge_counting(
+        old_next,
+        old_out,
+        new_next,
+        new_out,
+        sizes,
+        depth,
+        reach,
+        list,
+    );
+    judged.verdict
+}
+
+// The verdict on the designs of the tables, with its list or trace, and the counts of the maps that it rests on.
+pub fn judge_counting(
+    old_next: &[u8],
+    old_out: &[u8],
+    new_next: &[u8],
+    new_out: &[u8],
+    sizes: Sizes,
+    depth: &mut [u16],
+    reach: &mut [u16],
+    list: &mut [u8],
+) -> Judged
+    ensures { λ r. ⌜ JudgesCounting (bothTables sizes (now («old_next» .entry)) (now («old_out» .entry)) (now («new_next» .entry)) (now («new_out» .entry))) (lentOf (length (now (depth .entry))) (length (now (reach .entry))) (length (now (list .entry)))) (leftOf (now (depth .exit)) (now (reach .exit)) (now (list .exit))) r ⌝ }
+{
     let room = memory::shorter(depth.len(), reach.len());
     let n = seek::call_fault(old_next, old_out, new_next, new_out, sizes, room);
     memory::clear_bytes(list);
     if n != 0 {
         memory::clear_scratch(depth, reach);
-        return Verdict::Refused(n);
+        return without_counts(n);
     }
     seek::map_both(old_next, old_out, new_next, new_out, sizes, depth, reach);
     let verdict = decide(
@@ -54,8 +89,55 @@ pub fn judge(
         reach,
         list,
     );
+    let judged = with_counts(verdict, sizes, depth, reach);
     memory::clear_scratch(depth, reach);
-    verdict
+    judged
+}
+
+// The refusal by number n.
+fn without_counts(n: u8) -> Judged
+    ensures { λ r. ⌜ WithoutCounts n r ⌝ }
+{
+    Judged {
+        verdict: Verdict::Refused(n),
+        alike: 0,
+        alignable: 0,
+    }
+}
+
+// The verdict with the counts of the two maps, which a refusal leaves out.
+fn with_counts(verdict: Verdict, sizes: Sizes, depth: &[u16], reach: &[u16]) -> Judged
+    requires { ⌜ Few sizes ⌝ }
+    requires { ⌜ pairs sizes ≤ length (now depth) ⌝ }
+    requires { ⌜ pairs sizes ≤ length (now reach) ⌝ }
+    ensures { λ r. ⌜ WithCounts sizes (now (depth .entry)) (now (reach .entry)) verdict r ⌝ }
+{
+    if let Verdict::Refused(n) = verdict {
+        return without_counts(n);
+    }
+    let end = search::total(sizes);
+    Judged {
+        verdict,
+        alike: zeros(depth, end),
+        alignable: end - zeros(reach, end),
+    }
+}
+
+// How many of the first n entries of a map are 0.
+fn zeros(map: &[u16], n: usize) -> usize
+    requires { ⌜ n ≤ length (now map) ⌝ }
+    requires { ⌜ n ≤ 16384 ⌝ }
+    ensures { λ r. ⌜ (r ≡ countOf 0 (now (map .entry)) n) × (r ≤ n) ⌝ }
+{
+    let mut count = 0;
+    let mut i = 0;
+    while i < n {
+        if map[i] == 0 {
+            count += 1;
+        }
+        i += 1;
+    }
+    count
 }
 
 // The verdict, by the two maps, in a list slice that is all zero.

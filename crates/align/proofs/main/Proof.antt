@@ -1,4 +1,4 @@
--- `main`: the text fits, and there is a mark for each pair.
+-- `main`: the text fits.
 use borrow.Author.Needs.{needs}
 use Rattle.align.proofs.main.Statement.{statement}
 use Rattle.align.proofs.main.Tie as tie
@@ -39,11 +39,8 @@ slice-aggregate-write-report-8 c = search needs
 slice-aggregate-write-report-9 : tie.Need-slice-aggregate-write-report-9
 slice-aggregate-write-report-9 c = search needs
 
-slice-aggregate-write-report-10 : tie.Need-slice-aggregate-write-report-10
-slice-aggregate-write-report-10 c = search needs
-
 write-report-requires : tie.Need-write-report-requires
-write-report-requires c κs = (search needs, search needs)
+write-report-requires c κs = search needs
 
 array-share-prefix-text : tie.Need-array-share-prefix-text
 array-share-prefix-text c = search needs
@@ -73,7 +70,6 @@ main-spec =
     slice-aggregate-write-report-7
     slice-aggregate-write-report-8
     slice-aggregate-write-report-9
-    slice-aggregate-write-report-10
     write-report-requires
     array-share-prefix-text
     slice-aggregate-write-all

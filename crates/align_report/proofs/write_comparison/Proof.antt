@@ -1,21 +1,25 @@
 -- `write_comparison`: the verdict's steps fit, and so does the text.
-use mathlib.Core.Path.{_∙_}
 use native.Mathlib.Omega.{arith}
-use Rattle.align_report.proofs.Comparing.{compares-in, reports-back, tabled, enough, not-same}
-use Rattle.align_report.proofs.Designs.{prints-same}
+use Rattle.align_report.proofs.Comparing.{same-facts, same-fits, apart-facts, apart-fits}
+use Rattle.align_report.proofs.Designs.{prints-refused, prints-same, prints-apart}
 use borrow.Author.Needs.{needs}
 use Rattle.align_report.proofs.write_comparison.Statement.{statement}
 use Rattle.align_report.proofs.write_comparison.Tie as tie
 
-compare-requires : tie.Need-compare-requires
-compare-requires c κs = search needs
+compare-counting-requires : tie.Need-compare-counting-requires
+compare-counting-requires c κs = search needs
 
 enum-known-verdict : tie.Need-enum-known-verdict
 enum-known-verdict c = search needs
 
-write-apart-requires : tie.Need-write-apart-requires
-write-apart-requires c κs =
-    (omega (arith, c .before .before .before .before .before .before .before .before .before .before .before .before .before .before .before .before .before .before .before .before .before .before .before .before .before .before .before .before .before .before .before .before .before .before .before .before .before .before .before .before .before .pre .0, c .before .before .before .before .before .before .before .before .before .before .before .list .given), (compares-in (c .before .before .before .before .before .before .before .before .before .before .before .before .before .before .before .before .before .before .before .before .before .before .before .before .compare .ensures) (c .before .before .before .before .before .before .before .before .before .before .before .before .before .before .before .before .before .before .before .before .before .before .before .old-next .given) (c .before .before .before .before .before .before .before .before .before .before .before .before .before .before .before .before .before .before .before .before .before .old-out .given) (c .before .before .before .before .before .before .before .before .before .before .before .before .before .before .before .before .before .before .before .new-next .given) (c .before .before .before .before .before .before .before .before .before .before .before .before .before .before .before .before .before .new-out .given), (not-same (c .before .before .before .before .before .before .before .before .before .before .before .before .before .before .before .before .before .before .before .before .before .before .before .before .compare .result) (c .before .before .before .before .before .before .before .before .before .match .keys2), c .before .before .before .before .before .before .before .before .before .before .before .before .before .before .before .before .before .before .before .before .before .before .before .before .before .before .before .before .before .before .before .before .before .before .before .before .before .before .before .before .before .pre .1)))
+enum-known-verdict-2 : tie.Need-enum-known-verdict-2
+enum-known-verdict-2 c = search needs
+
+verdict-requires : tie.Need-verdict-requires
+verdict-requires c κs = search needs
+
+put-refusal-requires : tie.Need-put-refusal-requires
+put-refusal-requires c κs = search needs
 
 same-length : tie.Need-same-length
 same-length c = search needs
@@ -41,40 +45,32 @@ same-length-7 c = search needs
 same-length-8 : tie.Need-same-length-8
 same-length-8 c = search needs
 
-same-length-9 : tie.Need-same-length-9
-same-length-9 c = search needs
-
 returns : tie.Need-returns
-returns c = reports-back (c .before .before .before .before .before .before .before .before .write-apart .ensures) (c .before .before .before .before .before .before .before .before .before .before .before .before .before .before .before .before .before .before .before .before .before .before .before .before .before .before .before .before .before .before .before .before .old-next .given) (c .before .before .before .before .before .before .before .before .before .before .before .before .before .before .before .before .before .before .before .before .before .before .before .before .before .before .before .before .before .before .old-out .given) (c .before .before .before .before .before .before .before .before .before .before .before .before .before .before .before .before .before .before .before .before .before .before .before .before .before .before .before .before .new-next .given) (c .before .before .before .before .before .before .before .before .before .before .before .before .before .before .before .before .before .before .before .before .before .before .before .before .before .before .new-out .given) (c .before .before .before .before .before .before .before .before .before .before .before .before .before .before .before .before .before .before .before .before .before .before .before .before .before .before .before .before .before .before .before .before .before .compare .ensures .tidy)
+returns c = prints-refused (c .before .before .before .before .before .before .before .before .before .before .before .before .before .before .before .before .before .before .before .before .before .compare-counting .result .verdict) (c .before .before .before .before .before .before .before .before .before .before .before .before .before .before .before .before .before .before .before .before .before .compare-counting .ensures .compares) (c .before .before .before .before .before .before .match .keys2) (c .before .before .before .before .before .match2 .keys2) (c .before .before .before .before .verdict3 .ensures) (c .before .before .put-refusal .ensures)
 
-count-pairs-requires : tie.Need-count-pairs-requires
-count-pairs-requires c κs =
-    let w = compares-in (rw (c .before .before .before .before .before .before .before .before .verdict .given .1) at (c .before .before .before .before .before .before .before .before .before .before .before .before .before .before .before .before .before .before .before .before .before .before .before .before .compare .ensures)) (c .before .before .before .before .before .before .before .before .before .before .before .before .before .before .before .before .before .before .before .before .before .before .before .old-next .given) (c .before .before .before .before .before .before .before .before .before .before .before .before .before .before .before .before .before .before .before .before .before .old-out .given) (c .before .before .before .before .before .before .before .before .before .before .before .before .before .before .before .before .before .before .before .new-next .given) (c .before .before .before .before .before .before .before .before .before .before .before .before .before .before .before .before .before .new-out .given) in
-    (tabled (w .keeps .0) (w .keeps .1 .old) (w .keeps .1 .new), enough (w .keeps .0) (c .before .before .before .before .before .before .before .before .before .before .before .before .before .before .before .before .before .before .before .before .before .before .before .before .before .before .before .before .before .before .before .before .before .before .before .before .before .before .before .before .before .pre .1))
+sizes-of-requires : tie.Need-sizes-of-requires
+sizes-of-requires c κs = apart-facts (c .before .before .before .before .before .before .before .before .before .before .before .before .before .before .before .before .before .before .compare-counting .ensures) (c .before .verdict2 .given .1) .0
 
-enum-known-counted : tie.Need-enum-known-counted
-enum-known-counted c = search needs
+facts-of-requires : tie.Need-facts-of-requires
+facts-of-requires c κs = apart-facts (c .before .before .before .before .before .before .before .before .before .before .before .before .before .before .before .before .before .before .before .compare-counting .ensures) (c .before .before .verdict2 .given .1)
 
-enum-told : tie.Need-enum-told
-enum-told c = search needs
+put-apart-requires : tie.Need-put-apart-requires
+put-apart-requires c κs = let h = apart-fits (c .before .before .before .before .before .before .before .before .before .before .before .before .before .before .before .before .before .before .before .before .before .before .before .before .before .before .compare-counting .ensures) (c .before .before .before .before .before .before .before .before .before .verdict2 .given .1) (c .before .before .before .before .before .before .before .sizes-of .ensures) in (h .0, (h .1, omega (arith, h .1, c .before .before .before .before .before .before .before .before .before .before .before .before .before .before .before .before .before .before .before .before .before .before .before .before .before .before .before .before .before .before .before .before .before .before .before .before .before .before .before .before .before .before .pre, c .before .before .before .before .before .before .before .before .before .before .before .before .before .list .given)))
 
-counted-requires : tie.Need-counted-requires
-counted-requires c κs = search needs
-
-put-refusal-requires : tie.Need-put-refusal-requires
-put-refusal-requires c κs = omega (arith, c .before .before .before .before .before .before .before .before .before .before .before .before .before .before .before .before .before .before .before .before .before .before .before .before .before .before .before .before .before .before .before .before .before .before .before .before .before .before .before .before .before .before .before .before .before .before .before .before .before .before .before .before .pre .0)
+same-length-9 : tie.Need-same-length-9
+same-length-9 c = c .before .before .before .before .before .before .before .before .before .before .before .before .before .before .before .before .before .before .before .before .before .before .before .before .before .before .before .before .old-next .given
 
 same-length-10 : tie.Need-same-length-10
-same-length-10 c = search needs
+same-length-10 c = c .before .before .before .before .before .before .before .before .before .before .before .before .before .before .before .before .before .before .before .before .before .before .before .before .before .before .old-out .given
 
 same-length-11 : tie.Need-same-length-11
-same-length-11 c = search needs
+same-length-11 c = c .before .before .before .before .before .before .before .before .before .before .before .before .before .before .before .before .before .before .before .before .before .before .before .before .new-next .given
 
 same-length-12 : tie.Need-same-length-12
-same-length-12 c = search needs
+same-length-12 c = c .before .before .before .before .before .before .before .before .before .before .before .before .before .before .before .before .before .before .before .before .before .before .new-out .given
 
 same-length-13 : tie.Need-same-length-13
-same-length-13 c = search needs
+same-length-13 c = c .before .before .before .before .before .before .before .before .before .before .before .before .before .before .before .before .before .before .before .before .depth .given
 
 same-length-14 : tie.Need-same-length-14
 same-length-14 c = search needs
@@ -85,57 +81,51 @@ same-length-15 c = search needs
 same-length-16 : tie.Need-same-length-16
 same-length-16 c = search needs
 
+returns-2 : tie.Need-returns-2
+returns-2 c = prints-apart (c .before .before .before .before .before .before .before .before .before .before .before .before .before .before .before .before .before .before .before .before .before .before .before .before .before .before .before .before .before .compare-counting .ensures) (c .before .before .before .before .before .before .before .before .before .before .before .before .verdict2 .given .1) (c .before .before .before .before .before .before .before .before .before .before .sizes-of .ensures) (c .before .before .before .before .before .before .before .before .before .facts-of .ensures) (c .before .before .put-apart .ensures)
+
+facts-of-requires-2 : tie.Need-facts-of-requires-2
+facts-of-requires-2 c κs = same-facts (c .before .before .before .before .before .before .before .before .before .before .before .before .before .before .before .before .before .compare-counting .ensures) (c .before .verdict .given .1)
+
+put-same-requires : tie.Need-put-same-requires
+put-same-requires c κs = let h = same-fits (c .before .before .before .before .before .before .before .before .before .before .before .before .before .before .before .before .before .before .before .before .compare-counting .ensures) (c .before .before .before .before .verdict .given .1) in (h, omega (arith, h, c .before .before .before .before .before .before .before .before .before .before .before .before .before .before .before .before .before .before .before .before .before .before .before .before .before .before .before .before .before .before .before .before .before .before .before .before .pre, c .before .before .before .before .before .before .before .list .given))
+
 same-length-17 : tie.Need-same-length-17
 same-length-17 c = search needs
 
 same-length-18 : tie.Need-same-length-18
 same-length-18 c = search needs
 
-returns-2 : tie.Need-returns-2
-returns-2 c = absurd (rw (c .before .before .before .before .before .enum-told .given .1) at (c .before .before .before .before .before .before .before .before .before .before .before .before .before .count-pairs .ensures))
-
-put-same-requires : tie.Need-put-same-requires
-put-same-requires c κs =
-    let h = (rw (c .before .before .before .before .before .before .before .before .before .before .before .before .before .before .before .before .before .before .before .before .verdict .given .1) at (c .before .before .before .before .before .before .before .before .before .before .before .before .before .before .before .before .before .before .before .before .before .before .before .before .before .before .before .before .before .before .before .before .before .before .before .before .compare .ensures)) .keeps .1 .decided .fits in
-    (h, omega (arith, h, c .before .before .before .before .before .before .before .before .before .before .before .before .before .before .before .before .before .before .before .before .before .before .before .before .before .before .before .before .before .before .before .before .before .before .before .before .before .before .before .before .before .before .before .before .before .before .before .before .before .before .before .before .before .pre .0, c .before .before .before .before .before .before .before .before .before .before .before .before .before .before .before .before .before .before .before .before .before .before .before .list .given))
-
 same-length-19 : tie.Need-same-length-19
-same-length-19 c = c .before .before .before .before .before .before .before .before .before .before .before .before .before .before .before .before .before .before .before .before .before .before .before .before .before .before .before .before .before .before .before .before .before .before .before .before .before .before .old-next .given
+same-length-19 c = search needs
 
 same-length-20 : tie.Need-same-length-20
-same-length-20 c = c .before .before .before .before .before .before .before .before .before .before .before .before .before .before .before .before .before .before .before .before .before .before .before .before .before .before .before .before .before .before .before .before .before .before .before .before .old-out .given
+same-length-20 c = search needs
 
 same-length-21 : tie.Need-same-length-21
-same-length-21 c = c .before .before .before .before .before .before .before .before .before .before .before .before .before .before .before .before .before .before .before .before .before .before .before .before .before .before .before .before .before .before .before .before .before .before .new-next .given
+same-length-21 c = search needs
 
 same-length-22 : tie.Need-same-length-22
-same-length-22 c = c .before .before .before .before .before .before .before .before .before .before .before .before .before .before .before .before .before .before .before .before .before .before .before .before .before .before .before .before .before .before .before .before .new-out .given
+same-length-22 c = search needs
 
 same-length-23 : tie.Need-same-length-23
-same-length-23 c = c .before .before .before .before .before .before .before .before .before .before .before .before .before .depth3 .given ∙ c .before .before .before .before .before .before .before .before .before .before .before .before .before .before .before .before .before .before .before .before .before .before .before .before .before .before .before .before .before .before .depth .given
+same-length-23 c = search needs
 
 same-length-24 : tie.Need-same-length-24
-same-length-24 c = c .before .before .before .before .before .before .before .before .before .before .before .reach3 .given ∙ c .before .before .before .before .before .before .before .before .before .before .before .before .before .before .before .before .before .before .before .before .before .before .before .before .before .before .before .before .reach .given
-
-same-length-25 : tie.Need-same-length-25
-same-length-25 c = search needs
-
-same-length-26 : tie.Need-same-length-26
-same-length-26 c = search needs
-
-same-length-27 : tie.Need-same-length-27
-same-length-27 c = search needs
+same-length-24 c = search needs
 
 returns-3 : tie.Need-returns-3
-returns-3 c = prints-same (rw (c .before .before .before .before .before .before .before .before .before .before .before .before .before .before .before .before .before .before .before .before .before .before .before .verdict .given .1) at (c .before .before .before .before .before .before .before .before .before .before .before .before .before .before .before .before .before .before .before .before .before .before .before .before .before .before .before .before .before .before .before .before .before .before .before .before .before .before .before .compare .ensures)) (rw (c .before .before .before .before .before .before .counted .given .1) at (c .before .before .before .before .before .before .before .before .before .before .before .before .before .before .count-pairs .ensures)) (c .before .before .put-same .ensures)
+returns-3 c = prints-same (c .before .before .before .before .before .before .before .before .before .before .before .before .before .before .before .before .before .before .before .before .before .before .before .compare-counting .ensures) (c .before .before .before .before .before .before .before .verdict .given .1) (c .before .before .before .before .before .facts-of2 .ensures) (c .before .before .put-same .ensures)
 
 pub write-comparison-spec : {M : Type 1} → statement M
 write-comparison-spec =
     tie.close
     (tie.spec
-    compare-requires
+    compare-counting-requires
     enum-known-verdict
-    write-apart-requires
+    enum-known-verdict-2
+    verdict-requires
+    put-refusal-requires
     same-length
     same-length-2
     same-length-3
@@ -144,13 +134,11 @@ write-comparison-spec =
     same-length-6
     same-length-7
     same-length-8
-    same-length-9
     returns
-    count-pairs-requires
-    enum-known-counted
-    enum-told
-    counted-requires
-    put-refusal-requires
+    sizes-of-requires
+    facts-of-requires
+    put-apart-requires
+    same-length-9
     same-length-10
     same-length-11
     same-length-12
@@ -158,17 +146,15 @@ write-comparison-spec =
     same-length-14
     same-length-15
     same-length-16
+    returns-2
+    facts-of-requires-2
+    put-same-requires
     same-length-17
     same-length-18
-    returns-2
-    put-same-requires
     same-length-19
     same-length-20
     same-length-21
     same-length-22
     same-length-23
     same-length-24
-    same-length-25
-    same-length-26
-    same-length-27
     returns-3)

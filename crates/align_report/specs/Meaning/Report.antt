@@ -3,7 +3,6 @@
 --   oldDesign, newDesign b     the designs that they spell
 --   OldRefused b k             the old image is refused by number k
 --   OldAccepted b              it is accepted
---   Counts P z n               n of the pairs within the sizes z have P
 --   FactsOf a b f              the numbers f in front of a verdict are those of the designs a and b
 --   AnswersDesigns a b n s t   the text t answers the designs a and b, with table slices of lengths n and other slices of lengths s
 --   Answers b n s t            the text t answers the input b
@@ -18,12 +17,11 @@ use Rattle.netlist.specs.declared.Design.{Design}
 use Rattle.image.specs.Meaning.Format.{bytesIn, decoded}
 use Rattle.image.specs.Meaning.Faults.{ImageFault, HeaderFault}
 use Rattle.machine.specs.declared.Pair.{Pair}
-use Rattle.machine.specs.declared.Sizes.{Sizes}
 use Rattle.machine.specs.Meaning.Machine.{Alike, Alignable}
 use Rattle.machine.specs.Meaning.Tables.{Ok, pairs}
+use Rattle.machine.specs.Meaning.Counts.{Counts}
 use Rattle.machine.specs.Meaning.Verdict.{IsSame, IsApart}
 use Rattle.machine.specs.Meaning.Lent.{Lent}
-use Rattle.engine.specs.Meaning.Maps.{Marks}
 use Rattle.compare.specs.Meaning.Designs.{machineOf, sizesOf}
 use Rattle.compare.specs.Meaning.Comparing.{TablesLent, CompareFault}
 use Rattle.report.specs.declared.Facts.{Facts}
@@ -52,12 +50,7 @@ pub record OldAccepted (b : List ℕ) : Type 0 where
   pub header : Free (HeaderFault b)
   pub image : Free (ImageFault (oldBytes b))
 
--- "alike pairs and all pairs; alignable pairs and all pairs": some marks say of each pair whether it has P, and n of them are 1
-pub record Counts (P : Pair → Type 0) (z : Sizes) (n : ℕ) : Type 0 where
-  pub marks : List ℕ
-  pub marked : Marks P z marks n
-
--- "The lines hold I and O, L of old and new"
+-- "The lines hold I and O, L of old and new; alike pairs and all pairs; alignable pairs and all pairs"
 pub record FactsOf (a b : Design) (f : Facts) : Type 0 where
   pub inputs : f .inputs ≡ a .inputs
   pub outputs : f .outputs ≡ a .outputs

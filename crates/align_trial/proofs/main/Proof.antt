@@ -1,4 +1,4 @@
--- `main`: the text fits, and there is a mark for each pair.
+-- `main`: the text fits.
 use borrow.Author.Needs.{needs}
 use Rattle.align_trial.proofs.main.Statement.{statement}
 use Rattle.align_trial.proofs.main.Tie as tie
@@ -42,11 +42,8 @@ slice-aggregate-show-all-9 c = search needs
 slice-aggregate-show-all-10 : tie.Need-slice-aggregate-show-all-10
 slice-aggregate-show-all-10 c = search needs
 
-slice-aggregate-show-all-11 : tie.Need-slice-aggregate-show-all-11
-slice-aggregate-show-all-11 c = search needs
-
 show-all-requires : tie.Need-show-all-requires
-show-all-requires c κs = (search needs, search needs)
+show-all-requires c κs = search needs
 
 returns : tie.Need-returns
 returns c = search needs
@@ -68,6 +65,5 @@ main-spec =
     slice-aggregate-show-all-8
     slice-aggregate-show-all-9
     slice-aggregate-show-all-10
-    slice-aggregate-show-all-11
     show-all-requires
     returns)

@@ -50,7 +50,7 @@ slice-aggregate-write-report-2 : tie.Need-slice-aggregate-write-report-2
 slice-aggregate-write-report-2 c = sym (length-take-le _ _ (c .before .before .before .before .before .before .before .before .before .list-bytes .ensures))
 
 write-report-requires : tie.Need-write-report-requires
-write-report-requires c κs = (omega (arith, length-take (c .before .before .before .before .before .before .before .before .before .before .list-bytes .result) (c .before .before .before .before .before .before .before .before .before .before .before .before .before .before .before .before .before .before .before .before .before .before .before .before .before .before .before .before .before .before .before .before .args .list .now), c .before .before .before .before .before .before .before .before .before .before .before .before .before .before .before .before .before .before .before .before .before .before .before .before .before .before .before .before .before .before .before .before .pre .0), c .before .before .before .before .before .before .before .before .before .before .before .before .before .before .before .before .before .before .before .before .before .before .before .before .before .before .before .before .before .before .before .before .pre .1)
+write-report-requires c κs = omega (arith, length-take (c@list-bytes .result) (c@args .list .now), c@pre)
 
 slice-reshare-prefix-write-all : tie.Need-slice-reshare-prefix-write-all
 slice-reshare-prefix-write-all c = search needs
@@ -88,9 +88,6 @@ same-length-8 c = search needs
 same-length-9 : tie.Need-same-length-9
 same-length-9 c = search needs
 
-same-length-10 : tie.Need-same-length-10
-same-length-10 c = search needs
-
 returns : tie.Need-returns
 returns c = search needs
 
@@ -125,5 +122,4 @@ show-spec =
     same-length-7
     same-length-8
     same-length-9
-    same-length-10
     returns)

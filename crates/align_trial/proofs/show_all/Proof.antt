@@ -8,11 +8,11 @@ use Rattle.align_trial.proofs.show_all.Statement.{statement}
 use Rattle.align_trial.proofs.show_all.Tie as tie
 
 abbrev Inv-loop : tie.InvT-loop
-Inv-loop all input₀ old-next₀ old-out₀ new-next₀ new-out₀ depth₀ reach₀ marks₀ list₀ text₀ at₀ input old-next old-out new-next new-out depth reach marks list text at =
-    (length input ≡ length input₀) × (length old-next ≡ length old-next₀) × (length old-out ≡ length old-out₀) × (length new-next ≡ length new-next₀) × (length new-out ≡ length new-out₀) × (length depth ≡ length depth₀) × (length reach ≡ length reach₀) × (length marks ≡ length marks₀) × (length list ≡ length list₀) × (length text ≡ length text₀)
+Inv-loop all input₀ old-next₀ old-out₀ new-next₀ new-out₀ depth₀ reach₀ list₀ text₀ at₀ input old-next old-out new-next new-out depth reach list text at =
+    (length input ≡ length input₀) × (length old-next ≡ length old-next₀) × (length old-out ≡ length old-out₀) × (length new-next ≡ length new-next₀) × (length new-out ≡ length new-out₀) × (length depth ≡ length depth₀) × (length reach ≡ length reach₀) × (length list ≡ length list₀) × (length text ≡ length text₀)
 
 abbrev μ-loop : tie.MeasureT-loop
-μ-loop all input₀ old-next₀ old-out₀ new-next₀ new-out₀ depth₀ reach₀ marks₀ list₀ text₀ at₀ input old-next old-out new-next new-out depth reach marks list text at = length all - at
+μ-loop all input₀ old-next₀ old-out₀ new-next₀ new-out₀ depth₀ reach₀ list₀ text₀ at₀ input old-next old-out new-next new-out depth reach list text at = length all - at
 
 loop-holds : tie.Need-loop-holds Inv-loop μ-loop
 loop-holds c = search needs
@@ -68,9 +68,6 @@ same-length-8 c = search needs
 same-length-9 : tie.Need-same-length-9 Inv-loop μ-loop
 same-length-9 c = search needs
 
-same-length-10 : tie.Need-same-length-10 Inv-loop μ-loop
-same-length-10 c = search needs
-
 returns : tie.Need-returns Inv-loop μ-loop
 returns c = search needs
 
@@ -98,5 +95,4 @@ show-all-spec =
     same-length-7
     same-length-8
     same-length-9
-    same-length-10
     returns)

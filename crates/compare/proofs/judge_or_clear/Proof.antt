@@ -1,32 +1,14 @@
 -- `judge_or_clear`: the tables stay beside an answer, and are cleared beside a refusal.
-use mathlib.Core.Path.{refl}
+use Rattle.compare.proofs.Comparison.{tables-kept}
 use borrow.Author.Needs.{needs}
 use Rattle.compare.proofs.judge_or_clear.Statement.{statement}
 use Rattle.compare.proofs.judge_or_clear.Tie as tie
 
-judge-requires : tie.Need-judge-requires
-judge-requires c κs = search needs
+judge-counting-requires : tie.Need-judge-counting-requires
+judge-counting-requires c κs = search needs
 
-enum-known-answer : tie.Need-enum-known-answer
-enum-known-answer c = search needs
-
-enum-known-answer-2 : tie.Need-enum-known-answer-2
-enum-known-answer-2 c = search needs
-
-enum-known-answer-3 : tie.Need-enum-known-answer-3
-enum-known-answer-3 c = search needs
-
-clear-bytes-requires : tie.Need-clear-bytes-requires
-clear-bytes-requires c κs = search needs
-
-clear-bytes-requires-2 : tie.Need-clear-bytes-requires-2
-clear-bytes-requires-2 c κs = search needs
-
-clear-bytes-requires-3 : tie.Need-clear-bytes-requires-3
-clear-bytes-requires-3 c κs = search needs
-
-clear-bytes-requires-4 : tie.Need-clear-bytes-requires-4
-clear-bytes-requires-4 c κs = search needs
+enum-told : tie.Need-enum-told
+enum-told c = search needs
 
 same-length : tie.Need-same-length
 same-length c = search needs
@@ -50,7 +32,19 @@ same-length-7 : tie.Need-same-length-7
 same-length-7 c = search needs
 
 returns : tie.Need-returns
-returns c = record { judges = rw (c .before .answer .given .1) at (c .before .before .before .before .before .before .before .before .before .judge .ensures); tables = refl }
+returns c = record { judges = c .before .before .before .before .before .before .before .judge-counting .ensures; tables = tables-kept _ (c .before .before .before .before .before .before .before .judge-counting .result .verdict) (c .match .keys2) }
+
+clear-bytes-requires : tie.Need-clear-bytes-requires
+clear-bytes-requires c κs = search needs
+
+clear-bytes-requires-2 : tie.Need-clear-bytes-requires-2
+clear-bytes-requires-2 c κs = search needs
+
+clear-bytes-requires-3 : tie.Need-clear-bytes-requires-3
+clear-bytes-requires-3 c κs = search needs
+
+clear-bytes-requires-4 : tie.Need-clear-bytes-requires-4
+clear-bytes-requires-4 c κs = search needs
 
 same-length-8 : tie.Need-same-length-8
 same-length-8 c = search needs
@@ -74,44 +68,14 @@ same-length-14 : tie.Need-same-length-14
 same-length-14 c = search needs
 
 returns-2 : tie.Need-returns-2
-returns-2 c = record { judges = rw (c .before .answer2 .given .1) at (c .before .before .before .before .before .before .before .before .before .judge .ensures); tables = refl }
-
-same-length-15 : tie.Need-same-length-15
-same-length-15 c = search needs
-
-same-length-16 : tie.Need-same-length-16
-same-length-16 c = search needs
-
-same-length-17 : tie.Need-same-length-17
-same-length-17 c = search needs
-
-same-length-18 : tie.Need-same-length-18
-same-length-18 c = search needs
-
-same-length-19 : tie.Need-same-length-19
-same-length-19 c = search needs
-
-same-length-20 : tie.Need-same-length-20
-same-length-20 c = search needs
-
-same-length-21 : tie.Need-same-length-21
-same-length-21 c = search needs
-
-returns-3 : tie.Need-returns-3
-returns-3 c = record { judges = rw (c .before .before .before .before .before .before .before .before .before .before .before .before .before .before .before .before .before .answer3 .given .1) at (c .before .before .before .before .before .before .before .before .before .before .before .before .before .before .before .before .before .before .before .before .before .before .before .before .before .judge .ensures); tables = ((c .before .before .before .before .before .before .before .before .before .before .before .before .before .before .clear-bytes .ensures, c .before .before .before .before .before .before .before .before .before .before .clear-bytes2 .ensures), (c .before .before .before .before .before .before .clear-bytes3 .ensures, c .before .before .clear-bytes4 .ensures)) }
+returns-2 c = record { judges = c .before .before .before .before .before .before .before .before .before .before .before .before .before .before .before .before .before .before .before .before .before .before .before .before .judge-counting .ensures; tables = rw (c .before .before .before .before .before .before .before .before .before .before .before .before .before .before .before .before .enum-told .given .1) ((c .before .before .before .before .before .before .before .before .before .before .before .before .before .before .clear-bytes .ensures, c .before .before .before .before .before .before .before .before .before .before .clear-bytes2 .ensures), (c .before .before .before .before .before .before .clear-bytes3 .ensures, c .before .before .clear-bytes4 .ensures)) }
 
 pub judge-or-clear-spec : {M : Type 1} → statement M
 judge-or-clear-spec =
     tie.close
     (tie.spec
-    judge-requires
-    enum-known-answer
-    enum-known-answer-2
-    enum-known-answer-3
-    clear-bytes-requires
-    clear-bytes-requires-2
-    clear-bytes-requires-3
-    clear-bytes-requires-4
+    judge-counting-requires
+    enum-told
     same-length
     same-length-2
     same-length-3
@@ -120,6 +84,10 @@ judge-or-clear-spec =
     same-length-6
     same-length-7
     returns
+    clear-bytes-requires
+    clear-bytes-requires-2
+    clear-bytes-requires-3
+    clear-bytes-requires-4
     same-length-8
     same-length-9
     same-length-10
@@ -127,12 +95,4 @@ judge-or-clear-spec =
     same-length-12
     same-length-13
     same-length-14
-    returns-2
-    same-length-15
-    same-length-16
-    same-length-17
-    same-length-18
-    same-length-19
-    same-length-20
-    same-length-21
-    returns-3)
+    returns-2)

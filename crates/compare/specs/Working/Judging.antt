@@ -1,15 +1,15 @@
 -- Tables that are judged, and cleared where the verdict is a refusal.
 --   KeptOrCleared t l r         tables t are left as l: kept beside an answer, zero beside a refusal
---   JudgedOrCleared t s l e r   the verdict r on the tables t is right, and the slices are left as l and e
+--   JudgedOrCleared t s l e r   the verdict r on the tables t and its counts are right, and the slices are left as l and e
 use mathlib.Core.Path.{_≡_}
 use Rattle.memory.specs.Meaning.Refusals.{Reply, answer, refusal}
 use lib.ListN.{length}
 use Rattle.memory.specs.Meaning.Slices.{Cleared}
 use Rattle.machine.specs.Meaning.Tables.{Tables}
 use Rattle.machine.specs.Meaning.Lent.{Lent, Left}
-use Rattle.verdict.specs.declared.Verdict.{Verdict}
+use Rattle.verdict.specs.declared.Judged.{Judged}
 use Rattle.verdict.specs.Meaning.Decision.{Decision, verdictReply}
-use Rattle.verdict.specs.Meaning.Promise.{Judges}
+use Rattle.verdict.specs.Meaning.Promise.{JudgesCounting}
 use Rattle.compare.specs.Meaning.Comparing.{TablesLeft, tablesLeftOf}
 
 abbrev pub KeptOrCleared : Tables → TablesLeft → Reply Decision → Type 0
@@ -18,6 +18,6 @@ KeptOrCleared t l (refusal n) =
     (Cleared (length (t .old-next)) (l .old-next) × Cleared (length (t .old-out)) (l .old-out))
     × (Cleared (length (t .new-next)) (l .new-next) × Cleared (length (t .new-out)) (l .new-out))
 
-pub record JudgedOrCleared (t : Tables) (s : Lent) (l : TablesLeft) (e : Left) (r : Verdict) : Type 0 where
-  pub judges : Judges t s e r
-  pub tables : KeptOrCleared t l (verdictReply r)
+pub record JudgedOrCleared (t : Tables) (s : Lent) (l : TablesLeft) (e : Left) (r : Judged) : Type 0 where
+  pub judges : JudgesCounting t s e r
+  pub tables : KeptOrCleared t l (verdictReply (r .verdict))

@@ -4,14 +4,19 @@
 --   stepsOf x                 how many steps are written
 --   Says m0 m1 z l x          the decision x is right, with the list l
 --   Decided m0 m1 z list x    and that list stands at the front of the list slice, with all beyond it 0
+--   CountsPairs m0 m1 z n k   n pairs are alike and k alignable
+--   CountsBeside m0 m1 z r n k   so it is beside an answer; beside a refusal both are 0
 --   ShortList m0 m1 z n k     number k, 16, applies to a list slice of n bytes
+use mathlib.Core.Path.{_≡_}
 use mathlib.Core.List.{List}
 use Prim.Native.Nat.{ℕ, _<_}
 use lib.ListN.{length}
 use Rattle.memory.specs.Meaning.Refusals.{Reply, answer, refusal}
 use Rattle.machine.specs.declared.Pair.{Pair}
 use Rattle.machine.specs.declared.Sizes.{Sizes}
-use Rattle.machine.specs.Meaning.Machine.{Machine}
+use Rattle.machine.specs.Meaning.Machine.{Machine, Alike, Alignable}
+use Rattle.machine.specs.Meaning.Tables.{Ok}
+use Rattle.machine.specs.Meaning.Counts.{Counts}
 use Rattle.machine.specs.Meaning.Verdict.{IsSame, IsApart, VerdictList}
 use Rattle.machine.specs.Meaning.Lent.{Listed}
 use Rattle.verdict.specs.declared.Verdict.{Verdict}
@@ -40,6 +45,16 @@ module _ (m0 m1 : Machine) (z : Sizes) where
   -- "After an answer the part beyond it is zero"
   abbrev pub Decided : List ℕ → Decision → Type 0
   Decided list x = Listed (λ l. Says l x) list (stepsOf x)
+
+  -- "alike pairs and all pairs; alignable pairs and all pairs"
+  pub record CountsPairs (n k : ℕ) : Type 0 where
+    pub alike : Counts (Alike m0 m1 (Ok z)) z n
+    pub alignable : Counts (Alignable m0 m1 (Ok z)) z k
+
+  -- "The lowest applicable number is returned, with nothing else"
+  abbrev pub CountsBeside : Reply Decision → ℕ → ℕ → Type 0
+  CountsBeside (answer x) n k = CountsPairs n k
+  CountsBeside (refusal m) n k = (n ≡ 0) × (k ≡ 0)
 
   -- "16 list slice shorter than the answer"
   pub data ShortList (n : ℕ) : ℕ → Type 0 where

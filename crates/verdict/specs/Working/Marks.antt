@@ -11,6 +11,9 @@
 --   Added t p len l l′ n    the list of the pair p, of n steps, stands in l′ behind the first len entries of l; the rest is as it was
 --   Appended t p len l l′ r it is so, or there is no room for it
 --   Settled t n l′ r        the decision r on the tables t is right, with a list slice of n bytes that is left as l′
+--   MapCounts z d e n k     n entries of the map d are 0, and k of the map e are not
+--   WithoutCounts n r       r is the refusal by number n, with counts of 0
+--   WithCounts z d e v r    r is the verdict v with the counts of the maps d and e, or a refusal with none
 use mathlib.Core.Path.{_≡_}
 use mathlib.Core.Bool.{Bool, true, false}
 use mathlib.Core.List.{List, _++_}
@@ -23,10 +26,12 @@ use Rattle.machine.specs.declared.Sizes.{Sizes}
 use Rattle.machine.specs.Meaning.Tables.{Tables, pairs, at, In, oldMachine, newMachine, ListIn}
 use Rattle.machine.specs.Meaning.Verdict.{AllAlign, IsSame}
 use Rattle.machine.specs.Working.Pairs.{pairAt}
+use Rattle.numbers.specs.Meaning.Count.{countOf}
 use Rattle.memory.specs.Meaning.Refusals.{Keeps}
 use Rattle.memory.specs.Meaning.Slices.{Zero}
 use Rattle.seek.specs.Working.Steps.{Good, Both}
 use Rattle.verdict.specs.declared.Verdict.{Verdict}
+use Rattle.verdict.specs.declared.Judged.{Judged}
 use Rattle.verdict.specs.Meaning.Decision.{verdictReply, Decided, ShortList}
 
 abbrev pub AllAlignIn : Tables → Type 0
@@ -85,3 +90,17 @@ pub data Appended (t : Tables) (p : Pair) (len : ℕ) (list list′ : List ℕ) 
 
 pub record Settled (t : Tables) (n : ℕ) (list′ : List ℕ) (r : Verdict) : Type 0 where
   pub keeps : Keeps (ShortList (oldMachine t) (newMachine t) (t .sizes) n) (Decided (oldMachine t) (newMachine t) (t .sizes) list′) (Zero list′) (verdictReply r)
+
+pub record MapCounts (z : Sizes) (depth reach : List ℕ) (n k : ℕ) : Type 0 where
+  pub alike : n ≡ countOf 0 depth (pairs z)
+  pub alignable : k + countOf 0 reach (pairs z) ≡ pairs z
+
+pub record WithoutCounts (n : ℕ) (r : Judged) : Type 0 where
+  pub verdict : r .verdict ≡ Verdict.Refused n
+  pub alike : r .alike ≡ 0
+  pub alignable : r .alignable ≡ 0
+
+abbrev pub WithCounts : Sizes → List ℕ → List ℕ → Verdict → Judged → Type 0
+WithCounts z depth reach (Verdict.Same n) r = (r .verdict ≡ Verdict.Same n) × MapCounts z depth reach (r .alike) (r .alignable)
+WithCounts z depth reach (Verdict.Apart p n) r = (r .verdict ≡ Verdict.Apart p n) × MapCounts z depth reach (r .alike) (r .alignable)
+WithCounts z depth reach (Verdict.Refused n) r = WithoutCounts n r

@@ -1,0 +1,59 @@
+-- `zeros`: a turn an entry.
+use mathlib.Core.Path.{_≡_, ap, _∙_}
+use mathlib.Core.Logic.{⊎-elim}
+use Prim.Native.Nat.{_≤_, _-_}
+use native.Mathlib.Omega.{arith}
+use borrow.Author.Needs.{needs}
+use Rattle.numbers.specs.Meaning.Count.{countOf}
+use Rattle.verdict.proofs.Tallies.{zeros-start, zero-more, other-more}
+use Rattle.verdict.proofs.zeros.Statement.{statement}
+use Rattle.verdict.proofs.zeros.Tie as tie
+
+abbrev Inv-loop : tie.InvT-loop
+Inv-loop map n count₀ i₀ count i = (i ≤ n) × (count ≤ i) × (count ≡ countOf 0 map i)
+
+abbrev μ-loop : tie.MeasureT-loop
+μ-loop map n count₀ i₀ count i = n - i
+
+loop-holds : tie.Need-loop-holds Inv-loop μ-loop
+loop-holds c = (omega arith, omega arith, zeros-start (c .args .map .now))
+
+mul-if1 : tie.Need-mul-if1 Inv-loop μ-loop
+mul-if1 c = search needs
+
+shared-slice-read-if1 : tie.Need-shared-slice-read-if1 Inv-loop μ-loop
+shared-slice-read-if1 c = search needs
+
+add-count : tie.Need-add-count Inv-loop μ-loop
+add-count c = search needs
+
+add-i : tie.Need-add-i Inv-loop μ-loop
+add-i c = search needs
+
+loop-less : tie.Need-loop-less Inv-loop μ-loop
+loop-less c = search needs
+
+loop-again : tie.Need-loop-again Inv-loop μ-loop
+loop-again c =
+    ⊎-elim
+    (λ w. rw (w .1) (omega arith, omega arith, omega (arith, c .before .before .before .loop .inv .2, zero-more (c .before .before .before .before .args .map .now) (c .before .before .before .loop .i) (w .0 .taken))))
+    (λ w. rw (w .1) (omega arith, omega arith, omega (arith, c .before .before .before .loop .inv .2, other-more (c .before .before .before .before .args .map .now) (c .before .before .before .loop .i) (w .0 .left))))
+    (c .if1 .came)
+
+returns : tie.Need-returns Inv-loop μ-loop
+returns c = (c .before .loop .inv .2 ∙ ap (countOf 0 (c .before .before .args .map .now)) (omega arith), omega arith)
+
+pub zeros-spec : {M : Type 1} → statement M
+zeros-spec =
+    tie.close
+    (tie.spec
+    Inv-loop
+    μ-loop
+    loop-holds
+    mul-if1
+    shared-slice-read-if1
+    add-count
+    add-i
+    loop-less
+    loop-again
+    returns)
