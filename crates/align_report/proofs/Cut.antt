@@ -64,7 +64,7 @@ module _ (b : List ℕ) (long : mostRead ≤ length b) where
   old-refused {k} (OldRefused.header l) = OldRefused.header (header-there whole l)
   old-refused {k} (OldRefused.image f l) = OldRefused.image (free-there whole f) (subst (λ (c : List ℕ). Lowest (ImageFault c) k) (same-old f) l)
 
-  pub cut-input : (n : TablesLent) (s : Lent) (t : List ℕ) → Answers cut n s t → Answers b n s t
-  cut-input n s t (Answers.old-refused k r e) = Answers.old-refused k (old-refused r) e
-  cut-input n s t (Answers.new-refused k a l e) = Answers.new-refused k (old-accepted a) (lowest-there (behind (a .header)) l) e
-  cut-input n s t (Answers.designs a f d) = absurd (never-free (behind (a .header)) f)
+  pub cut-input : (n : TablesLent) (s : Lent) (l t : List ℕ) → Answers cut n s l t → Answers b n s l t
+  cut-input n s l t (Answers.old-refused k r z e) = Answers.old-refused k (old-refused r) z e
+  cut-input n s l t (Answers.new-refused k a f z e) = Answers.new-refused k (old-accepted a) (lowest-there (behind (a .header)) f) z e
+  cut-input n s l t (Answers.designs a f d) = absurd (never-free (behind (a .header)) f)

@@ -34,18 +34,18 @@ use Rattle.align_report.proofs.Comparing.{same-inputs, found-same, foun
 module _ {a b : Design} {n : TablesLent} {s : Lent} {t : TablesLeft} {e : Left} {text′ : List ℕ} {r : ℕ} where
   -- neither Same nor Apart
   pub prints-refused : (v : Verdict) {k : ℕ} → Compares a b n s t e v → OneOf (1 ∷ 2 ∷ []) (tagOf verdict.the-type v) → OneOf (0 ∷ 2 ∷ []) (tagOf verdict.the-type v) → k ≡ numberOf (verdictReply v)
-      → Printed (refusalText Both k) text′ r → ReportsDesigns a b n s text′ r
+      → Printed (refusalText Both k) text′ r → ReportsDesigns a b n s (e .written) text′ r
   prints-refused (Verdict.Same m) w (inl g) h i q = absurd (omega arith)
   prints-refused (Verdict.Same m) w (inr g) h i q = absurd (omega arith)
   prints-refused (Verdict.Apart p m) w g (inl h) i q = absurd (omega arith)
   prints-refused (Verdict.Apart p m) w g (inr h) i q = absurd (omega arith)
-  prints-refused (Verdict.Refused k) w g h i q = record { answers = AnswersDesigns.refused k (w .keeps .0) (rw (← i) (q .is)); counts = q .counts }
+  prints-refused (Verdict.Refused k) w g h i q = record { answers = AnswersDesigns.refused k (w .keeps .0) (w .keeps .1 .list) (rw (← i) (q .is)); counts = q .counts }
 
   pub prints-same : {j : Judged} {m : ℕ} {f : Facts} → ComparesCounting a b n s t e j → j .verdict ≡ Verdict.Same m → FactsOf a b f
-      → Printed (sameText f (take m (e .written))) text′ r → ReportsDesigns a b n s text′ r
+      → Printed (sameText f (take m (e .written))) text′ r → ReportsDesigns a b n s (e .written) text′ r
   prints-same c is f q =
       let w = found-same c is in
-      record { answers = AnswersDesigns.same (w .keeps .0) _ f _ (w .keeps .1 .decided .sought) (q .is); counts = q .counts }
+      record { answers = AnswersDesigns.found-same (w .keeps .0) _ f _ (w .keeps .1 .decided) (q .is); counts = q .counts }
 
 -- tables print what the designs show
 module _ {a b : Design} {n : TablesLent} {s : Lent} {next0 out0 next1 out1 : List ℕ} {e : Left} {j : Judged} {p : Pair} {m : ℕ}
@@ -67,11 +67,11 @@ module _ {a b : Design} {n : TablesLent} {s : Lent} {next0 out0 next1 out1 : Lis
       (same-closed (same-back agree)) f p l
 
   pub prints-apart : {z : Sizes} {f : Facts} {text′ : List ℕ} {r : ℕ} → z ≡ sizesOf a b → FactsOf a b f
-      → Printed (apartIn (bothTables z next0 out0 next1 out1) f p (take m (e .written))) text′ r → ReportsDesigns a b n s text′ r
+      → Printed (apartIn (bothTables z next0 out0 next1 out1) f p (take m (e .written))) text′ r → ReportsDesigns a b n s (e .written) text′ r
   prints-apart {z} {f} {text′} {r} same facts q =
       let k = w .keeps .1 .decided .sought in
       let x = subst (λ (y : Sizes). take r text′ ≡ apartIn (bothTables y next0 out0 next1 out1) f p (take m (e .written))) same (q .is) in
       record {
-        answers = AnswersDesigns.apart (w .keeps .0) f facts p _ k (x ∙ apart-there f (take m (e .written)) (k .lowest .inside) (k .trace .has .allowed));
+        answers = AnswersDesigns.found-apart (w .keeps .0) f facts p m (w .keeps .1 .decided) (x ∙ apart-there f (take m (e .written)) (k .lowest .inside) (k .trace .has .allowed));
         counts = q .counts;
       }

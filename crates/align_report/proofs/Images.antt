@@ -7,6 +7,7 @@ use lib.ListN.{length, take, drop, length-drop}
 use lib.Seq.{take-all}
 use Rattle.numbers.proofs.Order.{le-of-not-lt}
 use Rattle.memory.specs.Meaning.Refusals.{Free, Lowest}
+use Rattle.memory.specs.Meaning.Slices.{Zero}
 use Rattle.netlist.specs.declared.Design.{Design}
 use Rattle.image.specs.declared.Length.{Length}
 use Rattle.image.specs.declared.Answer.{Answer}
@@ -37,33 +38,33 @@ old-read {b} {m} {f} w d e =
     let x = rw e at (d .keeps) in
     record { header = w .keeps .0; image = subst (λ (j : ℕ). Free (ImageFault (take j b))) (w .keeps .1) (x .0) }
 
-module _ {b : List ℕ} {n : TablesLent} {s : Lent} {text′ : List ℕ} {r : ℕ} where
+module _ {b : List ℕ} {n : TablesLent} {s : Lent} {list′ text′ : List ℕ} {r : ℕ} where
   pub old-unmeasured : {m : Length} {k q : ℕ} → Measures b m → m ≡ Length.Refused k → q ≡ numberOf (lengthReply m)
-      → Printed (refusalText Old q) text′ r → Reports b n s text′ r
-  old-unmeasured {k = k} w e i p =
+      → Zero list′ → Printed (refusalText Old q) text′ r → Reports b n s list′ text′ r
+  old-unmeasured {k = k} w e i z p =
       let x = rw e at w in
       let j : _ ≡ k = rw e at i in
-      record { answers = Answers.old-refused k (OldRefused.header (x .keeps .0)) (rw (← j) (p .is)); counts = p .counts }
+      record { answers = Answers.old-refused k (OldRefused.header (x .keeps .0)) z (rw (← j) (p .is)); counts = p .counts }
 
   pub old-unread : {m k q : ℕ} {f : Reading} → Measures b (Length.Bytes m) → ReadsImage (take m b) f → f .answer ≡ Answer.Refused k → q ≡ numberOf (readReply (f .answer) emptyDesign)
-      → Printed (refusalText Old q) text′ r → Reports b n s text′ r
-  old-unread {m} {k} {q} {f} w d e i p =
+      → Zero list′ → Printed (refusalText Old q) text′ r → Reports b n s list′ text′ r
+  old-unread {m} {k} {q} {f} w d e i z p =
       let x = rw e at (d .keeps) in
       let y = subst (λ (j : ℕ). Lowest (ImageFault (take j b)) k) (w .keeps .1) (x .0) in
       let j : q ≡ k = rw e at i in
-      record { answers = Answers.old-refused k (OldRefused.image (w .keeps .0) y) (rw (← j) (p .is)); counts = p .counts }
+      record { answers = Answers.old-refused k (OldRefused.image (w .keeps .0) y) z (rw (← j) (p .is)); counts = p .counts }
 
   pub new-unread : {m k q : ℕ} {f g : Reading} → Measures b (Length.Bytes m) → ReadsImage (take m b) f → f .answer ≡ Answer.Accepted
       → ReadsImage (take (length b - m) (drop m b)) g → g .answer ≡ Answer.Refused k → q ≡ numberOf (readReply (g .answer) emptyDesign)
-      → Printed (refusalText New q) text′ r → Reports b n s text′ r
-  new-unread {m} {k} {q} {f} {g} w d a u e i p =
+      → Zero list′ → Printed (refusalText New q) text′ r → Reports b n s list′ text′ r
+  new-unread {m} {k} {q} {f} {g} w d a u e i z p =
       let x = rw e at (read-rest b m g u .keeps) in
       let y = subst (λ (j : ℕ). Lowest (ImageFault (drop j b)) k) (w .keeps .1) (x .0) in
       let j : q ≡ k = rw e at i in
-      record { answers = Answers.new-refused k (old-read w d a) y (rw (← j) (p .is)); counts = p .counts }
+      record { answers = Answers.new-refused k (old-read w d a) y z (rw (← j) (p .is)); counts = p .counts }
 
   pub both-read : {m : ℕ} {f g : Reading} → Measures b (Length.Bytes m) → ReadsImage (take m b) f → f .answer ≡ Answer.Accepted
-      → ReadsImage (take (length b - m) (drop m b)) g → g .answer ≡ Answer.Accepted → ReportsDesigns (f .design) (g .design) n s text′ r → Reports b n s text′ r
+      → ReadsImage (take (length b - m) (drop m b)) g → g .answer ≡ Answer.Accepted → ReportsDesigns (f .design) (g .design) n s list′ text′ r → Reports b n s list′ text′ r
   both-read {m} {f} {g} w d a u c p =
       let x = rw a at (d .keeps) in
       let y = rw c at (read-rest b m g u .keeps) in

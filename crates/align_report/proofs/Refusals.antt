@@ -12,12 +12,11 @@ use Rattle.simulator.specs.Meaning.Tables.{sizeOf, TableFault, InterfaceFault, 
 use Rattle.image.specs.Meaning.Faults.{ImageFault}
 use Rattle.image.proofs.Accepted.{image-accepted}
 use Rattle.machine.specs.Meaning.Tables.{pairs}
-use Rattle.machine.specs.Meaning.Lent.{Lent, lentOf}
 use Rattle.verdict.specs.Meaning.Decision.{short}
 use Rattle.compare.specs.Meaning.Designs.{sizesOf}
-use Rattle.compare.specs.Meaning.Comparing.{TablesLent, tablesLentOf, CompareFault}
+use Rattle.compare.specs.Meaning.Comparing.{CompareFault}
 use Rattle.compare.proofs.Agreement.{states-few, vectors-few}
-use Rattle.align_report.specs.Meaning.Report.{oldBytes, newBytes, oldDesign, newDesign, OldAccepted}
+use Rattle.align_report.specs.Meaning.Report.{oldBytes, newBytes, oldDesign, newDesign, OldAccepted, ownTables, ownSlices}
 
 -- 8192 entries are enough for the tables of any accepted design, and 16384 for the pairs of any two
 table-most : {d : Design} → Accepted d → sizeOf d ≤ 8192
@@ -26,14 +25,7 @@ table-most a = omega (arith, mul-le-mul (states-few a) (vectors-few a))
 pairs-most : {a b : Design} → Accepted a → Accepted b → pairs (sizesOf a b) ≤ 16384
 pairs-most x y = omega (arith, mul-le-mul (states-few x) (states-few y))
 
--- the program's slices, with a list slice of any length
-abbrev tables : TablesLent
-tables = tablesLentOf 8192 8192 8192 8192
-
-abbrev others : ℕ → Lent
-others m = lentOf 16384 16384 m
-
-only-10-16 : {a b : Design} {m k : ℕ} → Accepted a → Accepted b → CompareFault a b tables (others m) k → (k ≡ 10) ⊎ (k ≡ 16)
+only-10-16 : {a b : Design} {m k : ℕ} → Accepted a → Accepted b → CompareFault a b ownTables (ownSlices m) k → (k ≡ 10) ⊎ (k ≡ 16)
 only-10-16 x y (CompareFault.tabulating (BothFault.old (TableFault.design f))) = absurd (x _ f)
 only-10-16 x y (CompareFault.tabulating (BothFault.old (TableFault.next h))) = absurd (omega (arith, h, table-most x))
 only-10-16 x y (CompareFault.tabulating (BothFault.old (TableFault.out h))) = absurd (omega (arith, h, table-most x))
@@ -45,5 +37,5 @@ only-10-16 x y (CompareFault.tabulating (BothFault.interface (InterfaceFault.oth
 only-10-16 x y (CompareFault.scratch h) = absurd (omega (arith, h, pairs-most x y))
 only-10-16 x y (CompareFault.list (short l w h)) = inr refl
 
-pub refused-both : (b : List ℕ) (m k : ℕ) → OldAccepted b → Free (ImageFault (newBytes b)) → Lowest (CompareFault (oldDesign b) (newDesign b) tables (others m)) k → (k ≡ 10) ⊎ (k ≡ 16)
+pub refused-both : (b : List ℕ) (m k : ℕ) → OldAccepted b → Free (ImageFault (newBytes b)) → Lowest (CompareFault (oldDesign b) (newDesign b) ownTables (ownSlices m)) k → (k ≡ 10) ⊎ (k ≡ 16)
 refused-both b m k x y l = only-10-16 (image-accepted (oldBytes b) (x .image)) (image-accepted (newBytes b) y) (l .applies)

@@ -1,29 +1,74 @@
-// What the program `align` does with its input: both images are read, the designs compared, and the answer written as text. Whoever
-// answers with a refusal is taken apart first, so that nothing else is printed beside it.
+// What the program `align` does with its input: both images are read, the designs compared, and the answer written as text. Each answer
+// is taken apart before anything is written, so that nothing else stands beside a refusal. Tables and scratch are held here, for designs
+// at every limit.
 mod numbers_of;
 
 ghost use mathlib.Core.Path.{_≡_};
 ghost use Prim.Native.Nat.{_+_, _*_, _^_, _≤_};
 ghost use lib.ListN.{length};
+ghost use Rattle.memory.specs.Meaning.Slices.{Zero};
 ghost use Rattle.netlist.specs.Meaning.Faults.{Accepted};
 ghost use Rattle.machine.specs.Meaning.Lent.{lentOf};
 ghost use Rattle.verdict.specs.Meaning.Decision.{CountsPairs};
 ghost use Rattle.compare.specs.Meaning.Designs.{machineOf, sizesOf};
 ghost use Rattle.compare.specs.Meaning.Comparing.{tablesLentOf};
-ghost use Rattle.align_report.specs.Meaning.Report.{FactsOf, Reports};
+ghost use Rattle.align_report.specs.Meaning.Report.{FactsOf, Reports, ownTables, ownSlices, Prints};
 ghost use Rattle.align_report.specs.Working.Tabled.{ReportsDesigns};
 use image::Answer;
 use image::Length;
 use machine::Sizes;
 use netlist::Design;
+use netlist::Image;
 use report::Facts;
 use report::Side;
 use verdict::Judged;
 use verdict::Verdict;
 
-// Writes the text that answers the input, and hands back how many bytes it has. The old image takes the bytes that its header says, and
-// the rest is the new one.
-pub fn write_report(
+// Entries of the tables of the largest design, and pairs of two such designs.
+const ENTRIES: usize = 1 << (Image::MOST_LATCHES + Image::MOST_INPUTS);
+
+const PAIRS: usize = 1 << (Image::MOST_LATCHES + Image::MOST_LATCHES);
+
+// The most steps of a list.
+const STEPS: usize = 32768;
+
+// Writes what the program prints of its input, and hands back how many bytes it has.
+pub fn answer(input: &[u8], text: &mut [u8]) -> usize
+    requires { ⌜ 400 + 12 * 32768 ≤ length (now text) ⌝ }
+    ensures { λ r. ⌜ Prints (now (input .entry)) (now (text .exit)) r ⌝ }
+{
+    let mut list = [0u8; STEPS];
+    write_report(input, &mut list, text)
+}
+
+// The same with a list slice of any length.
+pub fn write_report(input: &[u8], list: &mut [u8], text: &mut [u8]) -> usize
+    requires { ⌜ 400 + 12 * length (now list) ≤ length (now text) ⌝ }
+    ensures { λ r. ⌜ Reports (now (input .entry)) ownTables (ownSlices (length (now (list .entry)))) (now (list .exit)) (now (text .exit)) r ⌝ }
+{
+    let mut old_next = [0u8; ENTRIES];
+    let mut old_out = [0u8; ENTRIES];
+    let mut new_next = [0u8; ENTRIES];
+    let mut new_out = [0u8; ENTRIES];
+    let mut depth = [0u16; PAIRS];
+    let mut reach = [0u16; PAIRS];
+    memory::clear_bytes(list);
+    write_images(
+        input,
+        &mut old_next,
+        &mut old_out,
+        &mut new_next,
+        &mut new_out,
+        &mut depth,
+        &mut reach,
+        list,
+        text,
+    )
+}
+
+// The text that answers the input, by slices that are lent, of which the list slice is all zero. The old image takes the bytes that its
+// header says, and the rest is the new one.
+fn write_images(
     input: &[u8],
     old_next: &mut [u8],
     old_out: &mut [u8],
@@ -35,7 +80,8 @@ pub fn write_report(
     text: &mut [u8],
 ) -> usize
     requires { ⌜ 400 + 12 * length (now list) ≤ length (now text) ⌝ }
-    ensures { λ r. ⌜ Reports (now (input .entry)) (tablesLentOf (length (now («old_next» .entry))) (length (now («old_out» .entry))) (length (now («new_next» .entry))) (length (now («new_out» .entry)))) (lentOf (length (now (depth .entry))) (length (now (reach .entry))) (length (now (list .entry)))) (now (text .exit)) r ⌝ }
+    requires { ⌜ Zero (now list) ⌝ }
+    ensures { λ r. ⌜ Reports (now (input .entry)) (tablesLentOf (length (now («old_next» .entry))) (length (now («old_out» .entry))) (length (now («new_next» .entry))) (length (now («new_out» .entry)))) (lentOf (length (now (depth .entry))) (length (now (reach .entry))) (length (now (list .entry)))) (now (list .exit)) (now (text .exit)) r ⌝ }
 {
     let measured = image::length_of(input);
     let Length::Bytes(n) = measured else {
@@ -81,7 +127,7 @@ fn write_comparison(
     text: &mut [u8],
 ) -> usize
     requires { ⌜ 400 + 12 * length (now list) ≤ length (now text) ⌝ }
-    ensures { λ r. ⌜ ReportsDesigns old new (tablesLentOf (length (now («old_next» .entry))) (length (now («old_out» .entry))) (length (now («new_next» .entry))) (length (now («new_out» .entry)))) (lentOf (length (now (depth .entry))) (length (now (reach .entry))) (length (now (list .entry)))) (now (text .exit)) r ⌝ }
+    ensures { λ r. ⌜ ReportsDesigns old new (tablesLentOf (length (now («old_next» .entry))) (length (now («old_out» .entry))) (length (now («new_next» .entry))) (length (now («new_out» .entry)))) (lentOf (length (now (depth .entry))) (length (now (reach .entry))) (length (now (list .entry)))) (now (list .exit)) (now (text .exit)) r ⌝ }
 {
     let judged = compare::compare_counting(
         old,

@@ -43,10 +43,11 @@ module _ (a b : Design) (n : TablesLent) (s : Lent) (t u : TablesLeft) (e f : Le
   same-all p w = let q = same-left s e f x y w in λ k. (p k, q k)
 
   answers-unique : Free (CompareFault a b n s) → (p q : Decision) → Compared a b t e p → Compared a b u f q → (p ≡ q) × (_≡_ {A = TablesLeft × Left} (t, e) (u, f))
-  answers-unique none p q g h =
-      (decision-unique (machineOf a) (machineOf b) (sizesOf a b) closed (e .written) (f .written) long p q (g .decided) (h .decided),
-      same-all (same-tables (holds-unique (old t) (old u) (i .old-next ∙ sym (j .old-next)) (i .old-out ∙ sym (j .old-out)) a (g .old) (h .old)) (holds-unique (new t) (new u) (i .new-next ∙ sym (j .new-next)) (i .new-out ∙ sym (j .new-out)) b (g .new) (h .new)))
-      (list-unique (machineOf a) (machineOf b) (sizesOf a b) closed (e .written) (f .written) long p q (g .decided) (h .decided)))
+  answers-unique none p q g h = (
+    decision-unique (machineOf a) (machineOf b) (sizesOf a b) closed (e .written) (f .written) long p q (g .decided) (h .decided),
+    same-all (same-tables (holds-unique (old t) (old u) (i .old-next ∙ sym (j .old-next)) (i .old-out ∙ sym (j .old-out)) a (g .old) (h .old)) (holds-unique (new t) (new u) (i .new-next ∙ sym (j .new-next)) (i .new-out ∙ sym (j .new-out)) b (g .new) (h .new)))
+        (list-unique (machineOf a) (machineOf b) (sizesOf a b) closed (e .written) (f .written) long p q (g .decided) (h .decided)),
+  )
     where
       same-inputs : a .inputs ≡ b .inputs
       same-inputs = stable (a .inputs) (b .inputs) (λ d. none 10 (CompareFault.tabulating (BothFault.interface (InterfaceFault.other-inputs d))))
@@ -64,8 +65,8 @@ pub compares-unique : (a b : Design) (n : TablesLent) (s : Lent) (t u : TablesLe
     → Compares a b n s t e q → Compares a b n s u f r → (q ≡ r) × (_≡_ {A = TablesLeft × Left} (t, e) (u, f))
 compares-unique a b n s t u e f q r g h =
     let w = kept-unique (CompareFault a b n s) (λ (l : TablesLeft × Left). Compared a b (l .0) (l .1)) (λ (l : TablesLeft × Left). ClearedAll (l .0) (l .1)) (t, e) (u, f)
-        (answers-unique a b n s t u e f (g .tables) (h .tables) (g .tidy) (h .tidy)) (refusals-unique a b n s t u e f (g .tables) (h .tables) (g .tidy) (h .tidy))
-        (verdictReply q) (verdictReply r) (g .keeps) (h .keeps) in
+    (answers-unique a b n s t u e f (g .tables) (h .tables) (g .tidy) (h .tidy)) (refusals-unique a b n s t u e f (g .tables) (h .tables) (g .tidy) (h .tidy))
+    (verdictReply q) (verdictReply r) (g .keeps) (h .keeps) in
     (reply-one q r (w .0), w .1)
 
 -- "A design's entries beyond G, L and O count for nothing"

@@ -4,15 +4,19 @@
 --   OldRefused b k             the old image is refused by number k
 --   OldAccepted b              it is accepted
 --   FactsOf a b f              the numbers f in front of a verdict are those of the designs a and b
---   AnswersDesigns a b n s t   the text t answers the designs a and b, with table slices of lengths n and other slices of lengths s
---   Answers b n s t            the text t answers the input b
---   Reports b n s text′ r      the first r bytes of text′ are such a text
+--   AnswersDesigns a b n s list′ t   the text t answers the designs a and b, with table slices of lengths n and other slices of lengths s;
+--                              list′ is what the list slice holds then
+--   Answers b n s list′ t      the text t answers the input b
+--   Reports b n s list′ text′ r      the first r bytes of text′ are such a text
+--   ownTables, ownSlices n     lengths of the tables and of scratch that the program holds, with a list slice of n bytes
+--   Prints b text′ r           the first r bytes of text′ are what the program prints of the input b
 use Prim.Native.Nat.{ℕ}
 use mathlib.Core.Path.{_≡_}
 use mathlib.Core.List.{List}
 use lib.ListN.{take, drop}
 use Rattle.io.specs.Counts as io
 use Rattle.memory.specs.Meaning.Refusals.{Free, Lowest}
+use Rattle.memory.specs.Meaning.Slices.{Zero}
 use Rattle.netlist.specs.declared.Design.{Design}
 use Rattle.image.specs.Meaning.Format.{bytesIn, decoded}
 use Rattle.image.specs.Meaning.Faults.{ImageFault, HeaderFault}
@@ -20,10 +24,10 @@ use Rattle.machine.specs.declared.Pair.{Pair}
 use Rattle.machine.specs.Meaning.Machine.{Alike, Alignable}
 use Rattle.machine.specs.Meaning.Tables.{Ok, pairs}
 use Rattle.machine.specs.Meaning.Counts.{Counts}
-use Rattle.machine.specs.Meaning.Verdict.{IsSame, IsApart}
-use Rattle.machine.specs.Meaning.Lent.{Lent}
+use Rattle.machine.specs.Meaning.Lent.{Lent, lentOf}
+use Rattle.verdict.specs.Meaning.Decision.{Decided, same, apart}
 use Rattle.compare.specs.Meaning.Designs.{machineOf, sizesOf}
-use Rattle.compare.specs.Meaning.Comparing.{TablesLent, CompareFault}
+use Rattle.compare.specs.Meaning.Comparing.{TablesLent, tablesLentOf, CompareFault}
 use Rattle.report.specs.declared.Facts.{Facts}
 use Rattle.report.specs.declared.Side.the-variants.{Old, New, Both}
 use Rattle.report.specs.Meaning.Text.{refusalText, sameText, apartText}
@@ -60,20 +64,32 @@ pub record FactsOf (a b : Design) (f : Facts) : Type 0 where
   pub alike : Counts (Alike (machineOf a) (machineOf b) (Ok (sizesOf a b))) (sizesOf a b) (f .alike)
   pub alignable : Counts (Alignable (machineOf a) (machineOf b) (Ok (sizesOf a b))) (sizesOf a b) (f .alignable)
 
--- "`REFUSED BOTH n` (10 and 16)"; else "the verdict with its list's length; then one vector a line", or Apart with its pair and trace
-pub data AnswersDesigns (a b : Design) (n : TablesLent) (s : Lent) (t : List ℕ) : Type 0 where
-  refused : (k : ℕ) → Lowest (CompareFault a b n s) k → t ≡ refusalText Both k → AnswersDesigns a b n s t
-  same : Free (CompareFault a b n s) → (f : Facts) → FactsOf a b f
-      → (l : List ℕ) → IsSame (machineOf a) (machineOf b) (sizesOf a b) l → t ≡ sameText f l → AnswersDesigns a b n s t
-  apart : Free (CompareFault a b n s) → (f : Facts) → FactsOf a b f
-      → (p : Pair) (l : List ℕ) → IsApart (machineOf a) (machineOf b) (sizesOf a b) p l → t ≡ apartText (machineOf a) (machineOf b) f p l → AnswersDesigns a b n s t
+-- "`REFUSED BOTH n`"; else "the verdict with its list's length; then one vector a line", or Apart with its pair and trace
+pub data AnswersDesigns (a b : Design) (n : TablesLent) (s : Lent) (list′ t : List ℕ) : Type 0 where
+  refused : (k : ℕ) → Lowest (CompareFault a b n s) k → Zero list′ → t ≡ refusalText Both k → AnswersDesigns a b n s list′ t
+  found-same : Free (CompareFault a b n s) → (f : Facts) → FactsOf a b f
+      → (m : ℕ) → Decided (machineOf a) (machineOf b) (sizesOf a b) list′ (same m) → t ≡ sameText f (take m list′) → AnswersDesigns a b n s list′ t
+  found-apart : Free (CompareFault a b n s) → (f : Facts) → FactsOf a b f
+      → (p : Pair) (m : ℕ) → Decided (machineOf a) (machineOf b) (sizesOf a b) list′ (apart p m) → t ≡ apartText (machineOf a) (machineOf b) f p (take m list′) → AnswersDesigns a b n s list′ t
 
 -- "A refusal prints only `REFUSED OLD n`, `REFUSED NEW n` or `REFUSED BOTH n` .., looked for in that order"
-pub data Answers (b : List ℕ) (n : TablesLent) (s : Lent) (t : List ℕ) : Type 0 where
-  old-refused : (k : ℕ) → OldRefused b k → t ≡ refusalText Old k → Answers b n s t
-  new-refused : (k : ℕ) → OldAccepted b → Lowest (ImageFault (newBytes b)) k → t ≡ refusalText New k → Answers b n s t
-  designs : OldAccepted b → Free (ImageFault (newBytes b)) → AnswersDesigns (oldDesign b) (newDesign b) n s t → Answers b n s t
+pub data Answers (b : List ℕ) (n : TablesLent) (s : Lent) (list′ t : List ℕ) : Type 0 where
+  old-refused : (k : ℕ) → OldRefused b k → Zero list′ → t ≡ refusalText Old k → Answers b n s list′ t
+  new-refused : (k : ℕ) → OldAccepted b → Lowest (ImageFault (newBytes b)) k → Zero list′ → t ≡ refusalText New k → Answers b n s list′ t
+  designs : OldAccepted b → Free (ImageFault (newBytes b)) → AnswersDesigns (oldDesign b) (newDesign b) n s list′ t → Answers b n s list′ t
 
-pub record Reports (b : List ℕ) (n : TablesLent) (s : Lent) (text′ : List ℕ) (r : ℕ) : Type 0 where
-  pub answers : Answers b n s (take r text′)
+pub record Reports (b : List ℕ) (n : TablesLent) (s : Lent) (list′ text′ : List ℕ) (r : ℕ) : Type 0 where
+  pub answers : Answers b n s list′ (take r text′)
   pub counts : io.Counts r text′
+
+-- "two table slices a design, S × V bytes each", "two scratch slices of one 16-bit number a pair": for designs at every limit
+abbrev pub ownTables : TablesLent
+ownTables = tablesLentOf 8192 8192 8192 8192
+
+abbrev pub ownSlices : ℕ → Lent
+ownSlices n = lentOf 16384 16384 n
+
+-- "The list slice has 32,768 bytes"; so `REFUSED BOTH n` is 10 or 16 alone (law refused-both)
+pub record Prints (b text′ : List ℕ) (r : ℕ) : Type 0 where
+  pub list : List ℕ
+  pub reports : Reports b ownTables (ownSlices 32768) list text′ r

@@ -47,10 +47,10 @@ slice-relend-prefix-write-report : tie.Need-slice-relend-prefix-write-report
 slice-relend-prefix-write-report c = search needs
 
 slice-aggregate-write-report-2 : tie.Need-slice-aggregate-write-report-2
-slice-aggregate-write-report-2 c = sym (length-take-le _ _ (c .before .before .before .before .before .before .before .before .before .list-bytes .ensures))
+slice-aggregate-write-report-2 c = sym (length-take-le _ _ (c .before .before .list-bytes .ensures))
 
 write-report-requires : tie.Need-write-report-requires
-write-report-requires c κs = omega (arith, length-take (c@list-bytes .result) (c@args .list .now), c@pre)
+write-report-requires c κs = omega (arith, length-take (c .before .before .before .list-bytes .result) (c .before .before .before .before .before .before .before .before .before .before .before .before .before .before .before .before .before .before .args .list .now), c .before .before .before .before .before .before .before .before .before .before .before .before .before .before .before .before .before .before .pre)
 
 slice-reshare-prefix-write-all : tie.Need-slice-reshare-prefix-write-all
 slice-reshare-prefix-write-all c = search needs
@@ -69,24 +69,6 @@ same-length-2 c = search needs
 
 same-length-3 : tie.Need-same-length-3
 same-length-3 c = search needs
-
-same-length-4 : tie.Need-same-length-4
-same-length-4 c = search needs
-
-same-length-5 : tie.Need-same-length-5
-same-length-5 c = search needs
-
-same-length-6 : tie.Need-same-length-6
-same-length-6 c = search needs
-
-same-length-7 : tie.Need-same-length-7
-same-length-7 c = search needs
-
-same-length-8 : tie.Need-same-length-8
-same-length-8 c = search needs
-
-same-length-9 : tie.Need-same-length-9
-same-length-9 c = search needs
 
 returns : tie.Need-returns
 returns c = search needs
@@ -116,10 +98,4 @@ show-spec =
     same-length
     same-length-2
     same-length-3
-    same-length-4
-    same-length-5
-    same-length-6
-    same-length-7
-    same-length-8
-    same-length-9
     returns)

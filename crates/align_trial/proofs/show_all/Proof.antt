@@ -1,18 +1,16 @@
 -- `show_all`: a turn a line.
 use Prim.Native.Nat.{_-_}
-use mathlib.Core.Path.{_≡_, refl}
+use mathlib.Core.Path.{_≡_}
 use lib.ListN.{length}
-use native.Mathlib.Omega.{arith}
 use borrow.Author.Needs.{needs}
 use Rattle.align_trial.proofs.show_all.Statement.{statement}
 use Rattle.align_trial.proofs.show_all.Tie as tie
 
 abbrev Inv-loop : tie.InvT-loop
-Inv-loop all input₀ old-next₀ old-out₀ new-next₀ new-out₀ depth₀ reach₀ list₀ text₀ at₀ input old-next old-out new-next new-out depth reach list text at =
-    (length input ≡ length input₀) × (length old-next ≡ length old-next₀) × (length old-out ≡ length old-out₀) × (length new-next ≡ length new-next₀) × (length new-out ≡ length new-out₀) × (length depth ≡ length depth₀) × (length reach ≡ length reach₀) × (length list ≡ length list₀) × (length text ≡ length text₀)
+Inv-loop all input₀ list₀ text₀ at₀ input list text at = (length input ≡ length input₀) × (length list ≡ length list₀) × (length text ≡ length text₀)
 
 abbrev μ-loop : tie.MeasureT-loop
-μ-loop all input₀ old-next₀ old-out₀ new-next₀ new-out₀ depth₀ reach₀ list₀ text₀ at₀ input old-next old-out new-next new-out depth reach list text at = length all - at
+μ-loop all input₀ list₀ text₀ at₀ input list text at = length all - at
 
 loop-holds : tie.Need-loop-holds Inv-loop μ-loop
 loop-holds c = search needs
@@ -50,24 +48,6 @@ same-length-2 c = search needs
 same-length-3 : tie.Need-same-length-3 Inv-loop μ-loop
 same-length-3 c = search needs
 
-same-length-4 : tie.Need-same-length-4 Inv-loop μ-loop
-same-length-4 c = search needs
-
-same-length-5 : tie.Need-same-length-5 Inv-loop μ-loop
-same-length-5 c = search needs
-
-same-length-6 : tie.Need-same-length-6 Inv-loop μ-loop
-same-length-6 c = search needs
-
-same-length-7 : tie.Need-same-length-7 Inv-loop μ-loop
-same-length-7 c = search needs
-
-same-length-8 : tie.Need-same-length-8 Inv-loop μ-loop
-same-length-8 c = search needs
-
-same-length-9 : tie.Need-same-length-9 Inv-loop μ-loop
-same-length-9 c = search needs
-
 returns : tie.Need-returns Inv-loop μ-loop
 returns c = search needs
 
@@ -89,10 +69,4 @@ show-all-spec =
     same-length
     same-length-2
     same-length-3
-    same-length-4
-    same-length-5
-    same-length-6
-    same-length-7
-    same-length-8
-    same-length-9
     returns)
