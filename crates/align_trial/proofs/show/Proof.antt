@@ -47,10 +47,10 @@ slice-relend-prefix-write-report : tie.Need-slice-relend-prefix-write-report
 slice-relend-prefix-write-report c = search needs
 
 slice-aggregate-write-report-2 : tie.Need-slice-aggregate-write-report-2
-slice-aggregate-write-report-2 c = sym (length-take-le _ _ (c .before .before .before .before .before .before .before .before .before .list-bytes .ensures))
+slice-aggregate-write-report-2 c = sym (length-take-le _ _ (c .before .before .before .before .before .before .before .before .list-bytes .ensures))
 
 write-report-requires : tie.Need-write-report-requires
-write-report-requires c κs = omega (arith, length-take (c@list-bytes .result) (c@args .list .now), c@pre)
+write-report-requires c κs = omega (arith, length-take (c .before .before .before .before .before .before .before .before .before .list-bytes .result) (c .before .before .before .before .before .before .before .before .before .before .before .before .before .before .before .before .before .before .before .before .before .before .before .before .before .before .before .before .before .before .args .list .now), c .before .before .before .before .before .before .before .before .before .before .before .before .before .before .before .before .before .before .before .before .before .before .before .before .before .before .before .before .before .before .pre)
 
 slice-reshare-prefix-write-all : tie.Need-slice-reshare-prefix-write-all
 slice-reshare-prefix-write-all c = search needs
