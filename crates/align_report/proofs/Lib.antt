@@ -3,3 +3,4 @@ pub mod Designs
 pub mod Images
 pub mod Cut
 pub mod Refusals
+pub mod Determined

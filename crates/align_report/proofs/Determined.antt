@@ -1,0 +1,91 @@
+-- One input has one text, and one list slice beside it.
+use Prim.Native.Nat.{ℕ}
+use mathlib.Core.Path.{_≡_, sym, _∙_, ap}
+use mathlib.Core.List.{List}
+use lib.ListN.{length, take}
+use Rattle.memory.specs.Meaning.Refusals.{Free, Lowest}
+use Rattle.memory.specs.Meaning.Slices.{Zero}
+use Rattle.memory.proofs.Refusals.{lowest-unique}
+use Rattle.memory.proofs.Slices.{zero-unique}
+use Rattle.netlist.specs.declared.Design.{Design}
+use Rattle.simulator.proofs.Values.{next-state-lt}
+use Rattle.machine.specs.Meaning.Lent.{Lent}
+use Rattle.machine.specs.Working.Pairs.{Closed}
+use Rattle.machine.proofs.Counting.{counts-unique}
+use Rattle.verdict.specs.Meaning.Decision.{Decision, Decided, same, apart}
+use Rattle.verdict.proofs.Laws.{decision-unique, list-unique}
+use Rattle.compare.specs.Meaning.Designs.{machineOf, sizesOf}
+use Rattle.compare.specs.Meaning.Comparing.{TablesLent}
+use Rattle.report.specs.declared.Facts.{Facts}
+use Rattle.report.specs.declared.Side.{Side}
+use Rattle.report.specs.declared.Side.the-variants.{Old, New, Both}
+use Rattle.report.specs.Meaning.Text.{refusalText, sameText, apartText}
+use Rattle.align_report.specs.Meaning.Report.{OldRefused, OldAccepted, FactsOf, AnswersDesigns, Answers}
+
+facts-unique : (a b : Design) (f g : Facts) → FactsOf a b f → FactsOf a b g → f ≡ g
+facts-unique a b f g x y =
+    let i = x .inputs ∙ sym (y .inputs) in
+    let o = x .outputs ∙ sym (y .outputs) in
+    let l = x .old-latches ∙ sym (y .old-latches) in
+    let m = x .new-latches ∙ sym (y .new-latches) in
+    let p = x .all ∙ sym (y .all) in
+    let q = counts-unique (x .alike) (y .alike) in
+    let r = counts-unique (x .alignable) (y .alignable) in
+    λ j. record { inputs = i j; outputs = o j; «old_latches» = l j; «new_latches» = m j; pairs = p j; alike = q j; alignable = r j }
+
+closed : (a b : Design) → Closed (machineOf a) (machineOf b) (sizesOf a b)
+closed a b p v i o = record { in-old = next-state-lt a (p .old) v; in-new = next-state-lt b (p .new) v }
+
+-- one number, one text
+same-refusal : (x : Side) {n m : ℕ} {t u : List ℕ} → n ≡ m → t ≡ refusalText x n → u ≡ refusalText x m → t ≡ u
+same-refusal x e p q = p ∙ ap (refusalText x) e ∙ sym q
+
+module _ (b : List ℕ) where
+  old-number : {i j : ℕ} → OldRefused b i → OldRefused b j → i ≡ j
+  old-number (OldRefused.header x) (OldRefused.header y) = lowest-unique x y
+  old-number {i} (OldRefused.header x) (OldRefused.image f y) = absurd (f i (x .applies))
+  old-number {i} {j} (OldRefused.image f x) (OldRefused.header y) = absurd (f j (y .applies))
+  old-number (OldRefused.image f x) (OldRefused.image g y) = lowest-unique x y
+
+  not-both : {i : ℕ} → OldRefused b i → OldAccepted b → ⊥
+  not-both {i} (OldRefused.header x) a = a .header i (x .applies)
+  not-both {i} (OldRefused.image f x) a = a .image i (x .applies)
+
+module _ (l k : List ℕ) (long : length l ≡ length k) where
+  module _ (a b : Design) (n : TablesLent) (s : Lent) where
+    same-decision : (x y : Decision) → Decided (machineOf a) (machineOf b) (sizesOf a b) l x → Decided (machineOf a) (machineOf b) (sizesOf a b) k y → x ≡ y
+    same-decision x y p q = decision-unique (machineOf a) (machineOf b) (sizesOf a b) (closed a b) l k long x y p q
+
+    same-list : (x y : Decision) → Decided (machineOf a) (machineOf b) (sizesOf a b) l x → Decided (machineOf a) (machineOf b) (sizesOf a b) k y → l ≡ k
+    same-list x y p q = list-unique (machineOf a) (machineOf b) (sizesOf a b) (closed a b) l k long x y p q
+
+    designs-unique : {t u : List ℕ} → AnswersDesigns a b n s l t → AnswersDesigns a b n s k u → (t ≡ u) × (l ≡ k)
+    designs-unique (AnswersDesigns.refused i x z p) (AnswersDesigns.refused j y w q) = (same-refusal Both (lowest-unique x y) p q, zero-unique l k long z w)
+    designs-unique (AnswersDesigns.refused i x z p) (AnswersDesigns.found-same y g fg m d q) = absurd (y i (x .applies))
+    designs-unique (AnswersDesigns.refused i x z p) (AnswersDesigns.found-apart y g fg r m d q) = absurd (y i (x .applies))
+    designs-unique (AnswersDesigns.found-same x f ff i c p) (AnswersDesigns.refused j y w q) = absurd (x j (y .applies))
+    designs-unique (AnswersDesigns.found-apart x f ff o i c p) (AnswersDesigns.refused j y w q) = absurd (x j (y .applies))
+    designs-unique (AnswersDesigns.found-same x f ff i c p) (AnswersDesigns.found-same y g fg m d q) =
+        let e = facts-unique a b f g ff fg in
+        let h = same-decision (same i) (same m) c d in
+        let r = same-list (same i) (same m) c d in
+        (cc, r)
+    designs-unique (AnswersDesigns.found-same x f ff i c p) (AnswersDesigns.found-apart y g fg r m d q) = let h = same-decision (same i) (apart r m) c d in (cc, same-list (same i) (apart r m) c d)
+    designs-unique (AnswersDesigns.found-apart x f ff o i c p) (AnswersDesigns.found-same y g fg m d q) = let h = same-decision (apart o i) (same m) c d in (cc, same-list (apart o i) (same m) c d)
+    designs-unique (AnswersDesigns.found-apart x f ff o i c p) (AnswersDesigns.found-apart y g fg r m d q) =
+        let e = facts-unique a b f g ff fg in
+        let h = same-decision (apart o i) (apart r m) c d in
+        let w = same-list (apart o i) (apart r m) c d in
+        (cc, w)
+
+  -- so no two texts answer one input, whatever is written beside them
+  pub answers-unique : (b : List ℕ) (n : TablesLent) (s : Lent) {t u : List ℕ} → Answers b n s l t → Answers b n s k u → (t ≡ u) × (l ≡ k)
+  answers-unique b n s (Answers.old-refused i x z p) (Answers.old-refused j y w q) = (same-refusal Old (old-number b x y) p q, zero-unique l k long z w)
+  answers-unique b n s (Answers.old-refused i x z p) (Answers.new-refused j a y w q) = absurd (not-both b x a)
+  answers-unique b n s (Answers.old-refused i x z p) (Answers.designs a y d) = absurd (not-both b x a)
+  answers-unique b n s (Answers.new-refused i a x z p) (Answers.old-refused j y w q) = absurd (not-both b y a)
+  answers-unique b n s (Answers.designs a x c) (Answers.old-refused j y w q) = absurd (not-both b y a)
+  answers-unique b n s (Answers.new-refused i a x z p) (Answers.new-refused j o y w q) = (same-refusal New (lowest-unique x y) p q, zero-unique l k long z w)
+  answers-unique b n s (Answers.new-refused i a x z p) (Answers.designs o y d) = absurd (y i (x .applies))
+  answers-unique b n s (Answers.designs a x c) (Answers.new-refused j o y w q) = absurd (x j (y .applies))
+  answers-unique b n s (Answers.designs a x c) (Answers.designs o y d) = designs-unique _ _ n s c d
