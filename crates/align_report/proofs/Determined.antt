@@ -33,7 +33,7 @@ facts-unique a b f g x y =
     let r = counts-unique (x .alignable) (y .alignable) in
     λ j. record { inputs = i j; outputs = o j; «old_latches» = l j; «new_latches» = m j; pairs = p j; alike = q j; alignable = r j }
 
-closed : (a b : Design) → Closed (machineOf a) (machineOf b) (sizesOf a b)
+pub closed : (a b : Design) → Closed (machineOf a) (machineOf b) (sizesOf a b)
 closed a b p v i o = record { in-old = next-state-lt a (p .old) v; in-new = next-state-lt b (p .new) v }
 
 -- one number, one text

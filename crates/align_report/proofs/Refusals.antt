@@ -19,10 +19,10 @@ use Rattle.compare.proofs.Agreement.{states-few, vectors-few}
 use Rattle.align_report.specs.Meaning.Report.{oldBytes, newBytes, oldDesign, newDesign, OldAccepted, ownTables, ownSlices}
 
 -- 8192 entries are enough for the tables of any accepted design, and 16384 for the pairs of any two
-table-most : {d : Design} → Accepted d → sizeOf d ≤ 8192
+pub table-most : {d : Design} → Accepted d → sizeOf d ≤ 8192
 table-most a = omega (arith, mul-le-mul (states-few a) (vectors-few a))
 
-pairs-most : {a b : Design} → Accepted a → Accepted b → pairs (sizesOf a b) ≤ 16384
+pub pairs-most : {a b : Design} → Accepted a → Accepted b → pairs (sizesOf a b) ≤ 16384
 pairs-most x y = omega (arith, mul-le-mul (states-few x) (states-few y))
 
 only-10-16 : {a b : Design} {m k : ℕ} → Accepted a → Accepted b → CompareFault a b ownTables (ownSlices m) k → (k ≡ 10) ⊎ (k ≡ 16)

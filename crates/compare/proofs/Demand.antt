@@ -37,7 +37,7 @@ apart-right a b l p n w =
     R.apart p n (g .inside) (λ d. g .apart (record { list = d .list; leads = d .drives })) (λ q i h. let x = g .lower q i h in record { list = x .list; drives = x .leads })
 
 module _ (a b : Design) (n : TablesLent) (s : Lent) (x : Accepted a) (y : Accepted b) (c : Compatible a b) (t : EnoughTables a b n) (k : Enough a b s) where
-  no-fault : (m : ℕ) → CompareFault a b n s m → ⊥
+  pub no-fault : (m : ℕ) → CompareFault a b n s m → ⊥
   no-fault m (CompareFault.tabulating (BothFault.old (TableFault.design f))) = x m f
   no-fault m (CompareFault.tabulating (BothFault.old (TableFault.next h))) = omega (arith, h, t .old-next)
   no-fault m (CompareFault.tabulating (BothFault.old (TableFault.out h))) = omega (arith, h, t .old-out)

@@ -5,3 +5,4 @@ pub mod Models
 pub mod Carried
 pub mod Sheet
 pub mod Readings
+pub mod Example

@@ -42,7 +42,7 @@ pair s0 s1 = record { old = s0; new = s1 }
 pub inside : {s0 s1 : ℕ} → s0 < 2 → s1 < 2 → In two (pair s0 s1)
 inside h k = record { in-old = h; in-new = k }
 
-zero-fed : Ok two 0
+pub zero-fed : Ok two 0
 zero-fed = record { below = lit< tt }
 
 one-fed : Ok two 1
@@ -57,7 +57,7 @@ below-one : (q : Pair) → number two q < 1 → pair 0 0 ≡ q
 below-one q h = same-pair (omega arith) (omega arith)
 
 -- P and Q: alike where the one state is the other inverted
-pq-set : (p : Pair) → p .old + p .new ≡ 1 → Alike takes inverts (Ok two) p
+pub pq-set : (p : Pair) → p .old + p .new ≡ 1 → Alike takes inverts (Ok two) p
 pq-set = alike-by-set takes inverts (Ok two) (λ q. q .old + q .new ≡ 1) (λ q v s o. omega (arith, s)) (λ q v s o. omega (arith, o .below))
 
 pub pq-alike : Alike takes inverts (Ok two) (pair 0 1)
