@@ -170,12 +170,15 @@ fn table_row(d: Design, state: usize, next: &[u8], out: &[u8], tally: &mut [u32;
     }
 }
 
-// The place of an entry; sizes are small.
+// The place of an entry. No drawn design has more than 256 states or vectors.
 fn entry(state: usize, vector: usize, vectors: usize) -> usize {
-    if 256 < state || 256 < vector || 256 < vectors {
+    if 256 < state {
         return 0;
     }
-    state * vectors + vector
+    if 256 < vectors {
+        return 0;
+    }
+    std::num::wrapping_add_usize(state * vectors, vector)
 }
 
 // Compares the bytes from a place on with 0.
@@ -201,7 +204,11 @@ fn byte_at(bytes: &[u8], k: usize) -> usize {
     if bytes.len() <= k {
         return 0;
     }
-    bytes[k] as usize
+    wide(bytes[k])
+}
+
+fn wide(byte: u8) -> usize {
+    byte as usize
 }
 
 fn states(d: Design) -> usize {

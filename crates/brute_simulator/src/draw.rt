@@ -6,6 +6,7 @@ use netlist::Design;
 use netlist::Gate;
 use netlist::Image;
 use std::num::wrapping_add_u16;
+use std::num::wrapping_sub_u16;
 
 pub struct Sizes {
     pub inputs: u8,
@@ -15,7 +16,7 @@ pub struct Sizes {
 }
 
 // Small sizes, with at most so many cells.
-pub fn sizes(random: &mut u32, most_cells: u8) -> Sizes {
+pub fn small_sizes(random: &mut u32, most_cells: u8) -> Sizes {
     let inputs = below(random, 5) as u8;
     let latches = below(random, 5) as u8;
     let outputs = below(random, 9) as u8;
@@ -30,7 +31,7 @@ pub fn sizes(random: &mut u32, most_cells: u8) -> Sizes {
 
 // Sizes for a design beside one of these sizes: mostly with the same inputs and outputs.
 pub fn sizes_beside(random: &mut u32, beside: Sizes) -> Sizes {
-    let mut drawn = sizes(random, 12);
+    let mut drawn = small_sizes(random, 12);
     let kept = below(random, 8);
     if kept != 0 {
         drawn.inputs = beside.inputs;
@@ -43,19 +44,20 @@ pub fn sizes_beside(random: &mut u32, beside: Sizes) -> Sizes {
 
 // A design of these sizes, with or without loops allowed.
 pub fn design(random: &mut u32, sizes: Sizes, loops: bool) -> Design {
-    let order = shuffled(random, sizes.count);
+    let count = sizes.count;
+    let order = shuffled(random, count);
     let start = first_cell(sizes);
     let mut d = unwired(random, sizes);
     let mut k: u16 = 0;
-    while k < sizes.count {
-        let reach = if loops { sizes.count } else { k };
+    while k < count {
+        let reach = if loops { count } else { k };
         let a = net(random, start, &order, reach);
         let b = net(random, start, &order, reach);
         let wired = with_gate(d, cell_at(&order, k), gate(random, a, b));
         d = wired;
         k += 1;
     }
-    let nets = wrapping_add_u16(start, sizes.count);
+    let nets = wrapping_add_u16(start, count);
     with_lists(random, d, sizes.latches, sizes.outputs, nets)
 }
 
@@ -236,7 +238,7 @@ pub fn chain(random: &mut u32, count: u16, closed: bool) -> Design {
         i += 1;
     }
     let last = if closed { start } else { 0 };
-    let ended = with_gate(d, count - 1, Gate::Not(last));
+    let ended = with_gate(d, wrapping_sub_u16(count, 1), Gate::Not(last));
     with_lists(random, ended, 2, 3, wrapping_add_u16(start, 4))
 }
 

@@ -26,7 +26,7 @@ fn main() {
 fn in_order(times: u32, random: &mut u32, tally: &mut [u32; Tally::PLACES]) {
     let mut i: u32 = 0;
     while i < times {
-        let sizes = draw::sizes(random, 16);
+        let sizes = draw::small_sizes(random, 16);
         compare::design(draw::design(random, sizes, false), tally);
         i += 1;
     }
@@ -43,7 +43,7 @@ fn in_any_order(times: u32, random: &mut u32, tally: &mut [u32; Tally::PLACES]) 
 
 // A design of few cells that read any net, perhaps spoiled.
 fn any_design(random: &mut u32) -> netlist::Design {
-    let sizes = draw::sizes(random, 8);
+    let sizes = draw::small_sizes(random, 8);
     let d = draw::design(random, sizes, true);
     draw::spoiled(random, d)
 }
@@ -52,7 +52,7 @@ fn any_design(random: &mut u32) -> netlist::Design {
 fn pairs(times: u32, random: &mut u32, tally: &mut [u32; Tally::PLACES]) {
     let mut i: u32 = 0;
     while i < times {
-        let sizes = draw::sizes(random, 12);
+        let sizes = draw::small_sizes(random, 12);
         let old = one_of_pair(random, sizes);
         let other = draw::sizes_beside(random, sizes);
         let new = one_of_pair(random, other);

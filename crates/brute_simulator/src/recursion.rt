@@ -3,6 +3,7 @@
 // the recursion has one turn less than its caller; a design of G cells without a loop never needs more than G turns.
 //
 // Limits and numbers are written here again, from document 01, so that a wrong one in the product shows.
+ghost use Prim.Native.Nat.{_≤_};
 use netlist::Design;
 use netlist::Gate;
 
@@ -89,16 +90,16 @@ fn deeper(d: Design, net: usize, turns: usize) -> bool {
     deeper(d, second(g), turns - 1)
 }
 
-pub struct Step {
+pub struct Stepped {
     pub next: u32,
     pub out: u32,
 }
 
 // The next state and the output of a design in a state under a vector.
-pub fn step(d: Design, state: usize, vector: usize) -> Step {
+pub fn step(d: Design, state: usize, vector: usize) -> Stepped {
     let data = d.data;
     let shown = d.shown;
-    Step {
+    Stepped {
         next: word(d, state, vector, &data, d.latches as usize),
         out: word(d, state, vector, &shown, d.outputs as usize),
     }
@@ -154,7 +155,10 @@ fn source(d: Design, state: usize, vector: usize, net: usize) -> bool {
 
 // Whether the bit at a place of a number of so many bits is 1, place 0 most significant.
 fn bit(number: usize, width: usize, place: usize) -> bool {
-    if width <= place || 8 < width {
+    if 8 < width {
+        return false;
+    }
+    if width <= place {
         return false;
     }
     (number >> (width - 1 - place)) % 2 == 1
@@ -187,7 +191,9 @@ fn ones(a: bool, b: bool) -> u8 {
 }
 
 // The number of the net that cell 0 drives.
-pub fn first_cell(d: Design) -> usize {
+pub fn first_cell(d: Design) -> usize
+    ensures { λ r. ⌜ r ≤ 512 ⌝ }
+{
     2 + d.inputs as usize + d.latches as usize
 }
 
@@ -203,7 +209,11 @@ pub fn net_at(list: &[u16], k: usize) -> usize {
     if list.len() <= k {
         return 0;
     }
-    list[k] as usize
+    wide(list[k])
+}
+
+fn wide(net: u16) -> usize {
+    net as usize
 }
 
 pub fn first(g: Gate) -> usize {

@@ -32,12 +32,12 @@ fn line(word: &[u8], n: u32) {
 pub fn disagreement(what: &[u8], found: Answer, expected: Answer) {
     text(b"DISAGREEMENT ");
     text(what);
-    answer(b" FOUND", found);
-    answer(b" EXPECTED", expected);
+    side(b" FOUND", found);
+    side(b" EXPECTED", expected);
     text(b"\n");
 }
 
-fn answer(word: &[u8], a: Answer) {
+fn side(word: &[u8], a: Answer) {
     text(word);
     if a.number != 0 {
         item(b" NUMBER ", a.number);
@@ -63,6 +63,11 @@ pub fn design(d: Design) {
     item(b" CELLS ", d.count as usize);
     text(b"\n");
     cells(d);
+    lists(d);
+}
+
+// The nets that the flip-flops read and the outputs show.
+fn lists(d: Design) {
     let data = d.data;
     nets(b"  DATA", &data, d.latches as usize);
     let shown = d.shown;
