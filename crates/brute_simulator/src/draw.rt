@@ -44,21 +44,34 @@ pub fn sizes_beside(random: &mut u32, beside: Sizes) -> Sizes {
 
 // A design of these sizes, with or without loops allowed.
 pub fn design(random: &mut u32, sizes: Sizes, loops: bool) -> Design {
-    let count = sizes.count;
-    let order = shuffled(random, count);
+    let order = shuffled(random, sizes.count);
     let start = first_cell(sizes);
-    let mut d = unwired(random, sizes);
+    let d = unwired(random, sizes);
+    let wired = with_cells(random, d, start, sizes.count, &order, loops);
+    let nets = wrapping_add_u16(start, sizes.count);
+    with_lists(random, wired, sizes.latches, sizes.outputs, nets)
+}
+
+// Wires one cell of the order after another.
+fn with_cells(
+    random: &mut u32,
+    design: Design,
+    start: u16,
+    count: u16,
+    order: &[u16; Image::MOST_CELLS],
+    loops: bool,
+) -> Design {
+    let mut d = design;
     let mut k: u16 = 0;
     while k < count {
         let reach = if loops { count } else { k };
-        let a = net(random, start, &order, reach);
-        let b = net(random, start, &order, reach);
-        let wired = with_gate(d, cell_at(&order, k), gate(random, a, b));
+        let a = net(random, start, order, reach);
+        let b = net(random, start, order, reach);
+        let wired = with_gate(d, cell_at(order, k), gate(random, a, b));
         d = wired;
         k += 1;
     }
-    let nets = wrapping_add_u16(start, count);
-    with_lists(random, d, sizes.latches, sizes.outputs, nets)
+    d
 }
 
 fn first_cell(sizes: Sizes) -> u16 {

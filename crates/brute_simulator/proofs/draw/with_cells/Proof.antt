@@ -1,23 +1,14 @@
--- `design`: one place of the order after another.
+-- `with_cells`: one place of the order after another.
 use Prim.Native.Nat.{_-_, _≤_}
 use borrow.Author.Needs.{needs}
-use Rattle.brute_simulator.proofs.draw.design.Statement.{statement}
-use Rattle.brute_simulator.proofs.draw.design.Tie as tie
+use Rattle.brute_simulator.proofs.draw.with_cells.Statement.{statement}
+use Rattle.brute_simulator.proofs.draw.with_cells.Tie as tie
 
 abbrev Inv-loop : tie.InvT-loop
-Inv-loop random₀ sizes loops count order start d₀ k₀ random d k = k ≤ count
+Inv-loop random₀ start count order loops d₀ k₀ random d k = k ≤ count
 
 abbrev μ-loop : tie.MeasureT-loop
-μ-loop random₀ sizes loops count order start d₀ k₀ random d k = count - k
-
-shuffled-requires : tie.Need-shuffled-requires Inv-loop μ-loop
-shuffled-requires c κs = search needs
-
-first-cell-requires : tie.Need-first-cell-requires Inv-loop μ-loop
-first-cell-requires c κs = search needs
-
-unwired-requires : tie.Need-unwired-requires Inv-loop μ-loop
-unwired-requires c κs = search needs
+μ-loop random₀ start count order loops d₀ k₀ random d k = count - k
 
 loop-holds : tie.Need-loop-holds Inv-loop μ-loop
 loop-holds c = search needs
@@ -46,24 +37,15 @@ loop-less c = search needs
 loop-again : tie.Need-loop-again Inv-loop μ-loop
 loop-again c = search needs
 
-wrapping-add-u16-requires : tie.Need-wrapping-add-u16-requires Inv-loop μ-loop
-wrapping-add-u16-requires c κs = search needs
-
-with-lists-requires : tie.Need-with-lists-requires Inv-loop μ-loop
-with-lists-requires c κs = search needs
-
 returns : tie.Need-returns Inv-loop μ-loop
 returns c = search needs
 
-pub design-spec : {M : Type 1} → statement M
-design-spec =
+pub with-cells-spec : {M : Type 1} → statement M
+with-cells-spec =
     tie.close
     (tie.spec
     Inv-loop
     μ-loop
-    shuffled-requires
-    first-cell-requires
-    unwired-requires
     loop-holds
     net-requires
     net-requires-2
@@ -73,6 +55,4 @@ design-spec =
     add-k
     loop-less
     loop-again
-    wrapping-add-u16-requires
-    with-lists-requires
     returns)
