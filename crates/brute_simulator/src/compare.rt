@@ -12,9 +12,10 @@ use simulator::TabulatedBoth;
 // Bytes of a table slice: more than any drawn design needs.
 const ROOM: usize = 300;
 
-// Compares the number of a design, its clocks and its tables.
+// Compares the number of a design, its tables and its clocks.
 pub fn design(d: Design, tally: &mut [u32; Tally::PLACES]) {
     let number = recursion::number(d);
+    tally::add_number(tally, Tally::DESIGNS, number);
     judge(
         b"FAULT",
         d,
@@ -22,36 +23,31 @@ pub fn design(d: Design, tally: &mut [u32; Tally::PLACES]) {
         refused(number),
         tally,
     );
-    let mut next = [7u8; ROOM];
-    let mut out = [7u8; ROOM];
-    let answer = tabulated(simulator::tabulate(d, &mut next, &mut out));
-    tally::add(tally, Tally::DESIGNS, 1);
-    tally::add(tally, Tally::DESIGNS_REFUSED + number as usize, 1);
+    tabulation(d, number, tally);
     if number != 0 {
-        judge(b"TABULATE", d, answer, refused(number), tally);
         clock(d, 0, 0, refused(number), tally);
-        zeros(d, 0, &next, &out, tally);
         return;
     }
     tally::add(tally, Tally::FORWARD, tally::forward_reads(d));
-    judge(
-        b"TABULATE",
-        d,
-        answer,
-        answered(states(d), vectors(d), 0),
-        tally,
-    );
-    tables(d, &next, &out, tally);
     clocks(d, tally);
 }
 
-// Compares the number of two designs or the tables of both.
+fn tabulation(d: Design, number: u8, tally: &mut [u32; Tally::PLACES]) {
+    let mut next = [7u8; ROOM];
+    let mut out = [7u8; ROOM];
+    let found = tabulated(simulator::tabulate(d, &mut next, &mut out));
+    let expected = sizes_or_number(states(d), vectors(d), 0, number);
+    judge(b"TABULATE", d, found, expected, tally);
+    tables(d, number, &next, &out, tally);
+}
+
+// Compares the number of two designs and the tables of both.
 pub fn pair(old: Design, new: Design, tally: &mut [u32; Tally::PLACES]) {
     let mut old_next = [7u8; ROOM];
     let mut old_out = [7u8; ROOM];
     let mut new_next = [7u8; ROOM];
     let mut new_out = [7u8; ROOM];
-    let answer = both(simulator::tabulate_both(
+    let found = both(simulator::tabulate_both(
         old,
         new,
         &mut old_next,
@@ -60,24 +56,32 @@ pub fn pair(old: Design, new: Design, tally: &mut [u32; Tally::PLACES]) {
         &mut new_out,
     ));
     let number = pair_number(old, new);
-    tally::add(tally, Tally::PAIRS, 1);
-    tally::add(tally, Tally::PAIRS_REFUSED + number as usize, 1);
-    if judge(
-        b"TABULATE BOTH",
-        old,
-        answer,
-        pair_answer(old, new, number),
-        tally,
-    ) {
+    pair_answer(old, new, number, found, tally);
+    tables(old, number, &old_next, &old_out, tally);
+    tables(new, number, &new_next, &new_out, tally);
+}
+
+// Compares what tabulating two designs answered.
+fn pair_answer(
+    old: Design,
+    new: Design,
+    number: u8,
+    found: Answer,
+    tally: &mut [u32; Tally::PLACES],
+) {
+    tally::add_number(tally, Tally::PAIRS, number);
+    let expected = sizes_or_number(states(old), states(new), vectors(old), number);
+    if judge(b"TABULATE BOTH", old, found, expected, tally) {
         show::design(new);
     }
+}
+
+// What tabulating should answer.
+fn sizes_or_number(first: usize, second: usize, third: usize, number: u8) -> Answer {
     if number != 0 {
-        zeros(old, 0, &old_next, &old_out, tally);
-        zeros(new, 0, &new_next, &new_out, tally);
-        return;
+        return refused(number);
     }
-    tables(old, &old_next, &old_out, tally);
-    tables(new, &new_next, &new_out, tally);
+    answered(first, second, third)
 }
 
 // The lowest number that applies to two designs, or 0.
@@ -98,14 +102,6 @@ fn lower(a: u8, b: u8) -> u8 {
         return a;
     }
     b
-}
-
-// What tabulating two designs should answer.
-fn pair_answer(old: Design, new: Design, number: u8) -> Answer {
-    if number != 0 {
-        return refused(number);
-    }
-    answered(states(old), states(new), vectors(old))
 }
 
 // Compares every clock, and the refusal of a state and of a vector one too high.
@@ -144,15 +140,23 @@ fn clock(
     }
 }
 
-// Compares every entry of the tables of a design, and the bytes beyond with 0.
-fn tables(d: Design, next: &[u8], out: &[u8], tally: &mut [u32; Tally::PLACES]) {
-    let states = states(d);
+// Compares every entry of the tables of a design, and the bytes beyond with 0; all of them after a refusal.
+fn tables(d: Design, number: u8, next: &[u8], out: &[u8], tally: &mut [u32; Tally::PLACES]) {
+    let states = rows(d, number);
     let mut state = 0;
     while state < states {
         table_row(d, state, next, out, tally);
         state += 1;
     }
     zeros(d, entry(states, 0, vectors(d)), next, out, tally);
+}
+
+// How many states the tables have: none after a refusal.
+fn rows(d: Design, number: u8) -> usize {
+    if number != 0 {
+        return 0;
+    }
+    states(d)
 }
 
 // Compares the entries of one state.

@@ -15,7 +15,7 @@ use crate::tally::Tally;
 fn main() {
     let mut tally = [0u32; Tally::PLACES];
     let mut random: u32 = 2463534242;
-    in_order(600, &mut random, &mut tally);
+    in_order(1000, &mut random, &mut tally);
     in_any_order(1000, &mut random, &mut tally);
     pairs(1000, &mut random, &mut tally);
     chains(&mut random, &mut tally);

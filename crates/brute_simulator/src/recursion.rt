@@ -40,8 +40,8 @@ fn reads_from(d: Design, nets: usize) -> bool {
     let count = d.count as usize;
     let mut i = 0;
     while i < count {
-        let g = gate_at(d, i);
-        if nets <= first(g) || nets <= second(g) {
+        let r = read_by(gate_at(d, i));
+        if nets <= r.first || nets <= r.second {
             return true;
         }
         i += 1;
@@ -83,11 +83,11 @@ fn deeper(d: Design, net: usize, turns: usize) -> bool {
     if turns == 0 {
         return true;
     }
-    let g = gate_at(d, net - start);
-    if deeper(d, first(g), turns - 1) {
+    let r = read_by(gate_at(d, net - start));
+    if deeper(d, r.first, turns - 1) {
         return true;
     }
-    deeper(d, second(g), turns - 1)
+    deeper(d, r.second, turns - 1)
 }
 
 pub struct Stepped {
@@ -136,8 +136,9 @@ fn value(d: Design, state: usize, vector: usize, net: usize, turns: usize) -> bo
         return false;
     }
     let g = gate_at(d, net - start);
-    let a = value(d, state, vector, first(g), turns - 1);
-    let b = value(d, state, vector, second(g), turns - 1);
+    let r = read_by(g);
+    let a = value(d, state, vector, r.first, turns - 1);
+    let b = value(d, state, vector, r.second, turns - 1);
     shows(g, a, b)
 }
 
@@ -216,29 +217,35 @@ fn wide(net: u16) -> usize {
     net as usize
 }
 
-pub fn first(g: Gate) -> usize {
+// The nets that a gate reads; the second is the constant 0 where it reads one net.
+pub struct Reads {
+    pub first: usize,
+    pub second: usize,
+}
+
+pub fn read_by(g: Gate) -> Reads {
     match g {
-        Gate::Buf(a) => a as usize,
-        Gate::Not(a) => a as usize,
-        Gate::And(a, _) => a as usize,
-        Gate::Or(a, _) => a as usize,
-        Gate::Xor(a, _) => a as usize,
-        Gate::Nand(a, _) => a as usize,
-        Gate::Nor(a, _) => a as usize,
-        Gate::Xnor(a, _) => a as usize,
+        Gate::Buf(a) => one_net(a),
+        Gate::Not(a) => one_net(a),
+        Gate::And(a, b) => two_nets(a, b),
+        Gate::Or(a, b) => two_nets(a, b),
+        Gate::Xor(a, b) => two_nets(a, b),
+        Gate::Nand(a, b) => two_nets(a, b),
+        Gate::Nor(a, b) => two_nets(a, b),
+        Gate::Xnor(a, b) => two_nets(a, b),
     }
 }
 
-// The second net; the constant 0 where a gate reads one net.
-pub fn second(g: Gate) -> usize {
-    match g {
-        Gate::Buf(_) => 0,
-        Gate::Not(_) => 0,
-        Gate::And(_, b) => b as usize,
-        Gate::Or(_, b) => b as usize,
-        Gate::Xor(_, b) => b as usize,
-        Gate::Nand(_, b) => b as usize,
-        Gate::Nor(_, b) => b as usize,
-        Gate::Xnor(_, b) => b as usize,
+fn one_net(a: u16) -> Reads {
+    Reads {
+        first: a as usize,
+        second: 0,
+    }
+}
+
+fn two_nets(a: u16, b: u16) -> Reads {
+    Reads {
+        first: a as usize,
+        second: b as usize,
     }
 }

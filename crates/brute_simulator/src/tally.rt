@@ -5,23 +5,19 @@ use crate::recursion;
 pub struct Tally {}
 
 impl Tally {
-    pub const DESIGNS: usize = 0;
-
-    pub const PAIRS: usize = 1;
-
     // How many times a cell of an accepted design reads a later cell.
-    pub const FORWARD: usize = 2;
+    pub const FORWARD: usize = 0;
 
-    pub const CLOCKS: usize = 3;
+    pub const CLOCKS: usize = 1;
 
-    pub const ENTRIES: usize = 4;
+    pub const ENTRIES: usize = 2;
 
-    pub const DISAGREEMENTS: usize = 5;
+    pub const DISAGREEMENTS: usize = 3;
 
-    // Designs and pairs by their number: at these places plus the number, which is 0 where nothing is wrong.
-    pub const DESIGNS_REFUSED: usize = 6;
+    // All designs and all pairs; those with each number, which is 0 where nothing is wrong, follow.
+    pub const DESIGNS: usize = 4;
 
-    pub const PAIRS_REFUSED: usize = 20;
+    pub const PAIRS: usize = 16;
 
     pub const PLACES: usize = 32;
 }
@@ -30,6 +26,25 @@ pub fn add(tally: &mut [u32; Tally::PLACES], place: usize, n: u32) {
     if place < Tally::PLACES {
         tally[place] = std::num::wrapping_add_u32(tally[place], n);
     }
+}
+
+// Counts a design or a pair, and its number.
+pub fn add_number(tally: &mut [u32; Tally::PLACES], place: usize, number: u8) {
+    add(tally, place, 1);
+    add(tally, place_of(place, number), 1);
+}
+
+// How many designs or pairs have a number.
+pub fn with_number(tally: &[u32; Tally::PLACES], place: usize, number: u8) -> u32 {
+    let at = place_of(place, number);
+    if at < Tally::PLACES {
+        return tally[at];
+    }
+    0
+}
+
+fn place_of(place: usize, number: u8) -> usize {
+    std::num::wrapping_add_usize(place, 1 + number as usize)
 }
 
 // Counts a disagreement, and says whether it is one of the first few, which are printed.
@@ -54,8 +69,9 @@ pub fn forward_reads(d: netlist::Design) -> u32 {
 
 // How many nets a gate reads that come after the one it drives.
 fn reads_later(g: netlist::Gate, net: usize) -> u32 {
-    let first = net < recursion::first(g);
-    let second = net < recursion::second(g);
+    let r = recursion::read_by(g);
+    let first = net < r.first;
+    let second = net < r.second;
     if first && second {
         return 2;
     }

@@ -5,13 +5,13 @@ use Rattle.brute_simulator.proofs.compare.tables.Statement.{statement}
 use Rattle.brute_simulator.proofs.compare.tables.Tie as tie
 
 abbrev Inv-loop : tie.InvT-loop
-Inv-loop d next out tally₀ states state₀ tally state = state ≤ states
+Inv-loop d number next out tally₀ states state₀ tally state = state ≤ states
 
 abbrev μ-loop : tie.MeasureT-loop
-μ-loop d next out tally₀ states state₀ tally state = states - state
+μ-loop d number next out tally₀ states state₀ tally state = states - state
 
-states-requires : tie.Need-states-requires Inv-loop μ-loop
-states-requires c κs = search needs
+rows-requires : tie.Need-rows-requires Inv-loop μ-loop
+rows-requires c κs = search needs
 
 loop-holds : tie.Need-loop-holds Inv-loop μ-loop
 loop-holds c = search needs
@@ -46,7 +46,7 @@ tables-spec =
     (tie.spec
     Inv-loop
     μ-loop
-    states-requires
+    rows-requires
     loop-holds
     table-row-requires
     add-state

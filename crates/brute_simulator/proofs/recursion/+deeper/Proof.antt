@@ -6,10 +6,9 @@ use borrow.Fn.PlainCycle.{Measures, is, falls, and}
 use Rattle.brute_simulator.proofs.recursion.deeper.Reads as deeper
 use Rattle.brute_simulator.proofs.recursion.deeper.Kinds as deeper-kinds
 use Rattle.brute_simulator.proofs.recursion.+deeper.Lts-deeper as deeper-lts
-use Rattle.brute_simulator.proofs.recursion.first.Reads as first-reads
 use Rattle.brute_simulator.proofs.recursion.first_cell.Reads as first-cell-reads
 use Rattle.brute_simulator.proofs.recursion.gate_at.Reads as gate-at-reads
-use Rattle.brute_simulator.proofs.recursion.second.Reads as second-reads
+use Rattle.brute_simulator.proofs.recursion.read_by.Reads as read-by-reads
 use Rattle.brute_simulator.proofs.recursion.+deeper.{statement}
 use Rattle.brute_simulator.proofs.recursion.+deeper.Tie.{close}
 
@@ -28,12 +27,10 @@ pub +deeper-spec : {M : Type 1} → statement M
   first-cell-reads.Learnt,
   gate-at-reads.Asked,
   gate-at-reads.Learnt,
-  first-reads.Asked,
-  first-reads.Learnt,
+  read-by-reads.Asked,
+  read-by-reads.Learnt,
   deeper-below t,
   deeper.Post,
-  second-reads.Asked,
-  second-reads.Learnt,
 )
     (deeper-at t)
     deeper.Post
@@ -45,7 +42,6 @@ pub +deeper-spec : {M : Type 1} → statement M
     (λ c. search needs)
     (λ c κs. search needs)
     (λ c. search needs)
-    (λ c κs. search needs)
     (λ c. search needs)
     (λ c κs. search needs)
     (λ c. search needs)

@@ -6,10 +6,9 @@ use borrow.Fn.PlainCycle.{Measures, is, falls, and}
 use Rattle.brute_simulator.proofs.recursion.value.Reads as value
 use Rattle.brute_simulator.proofs.recursion.value.Kinds as value-kinds
 use Rattle.brute_simulator.proofs.recursion.+value.Lts-value as value-lts
-use Rattle.brute_simulator.proofs.recursion.first.Reads as first-reads
 use Rattle.brute_simulator.proofs.recursion.first_cell.Reads as first-cell-reads
 use Rattle.brute_simulator.proofs.recursion.gate_at.Reads as gate-at-reads
-use Rattle.brute_simulator.proofs.recursion.second.Reads as second-reads
+use Rattle.brute_simulator.proofs.recursion.read_by.Reads as read-by-reads
 use Rattle.brute_simulator.proofs.recursion.shows.Reads as shows-reads
 use Rattle.brute_simulator.proofs.recursion.source.Reads as source-reads
 use Rattle.brute_simulator.proofs.recursion.+value.{statement}
@@ -32,12 +31,10 @@ pub +value-spec : {M : Type 1} → statement M
   source-reads.Learnt,
   gate-at-reads.Asked,
   gate-at-reads.Learnt,
-  first-reads.Asked,
-  first-reads.Learnt,
+  read-by-reads.Asked,
+  read-by-reads.Learnt,
   value-below t,
   value.Post,
-  second-reads.Asked,
-  second-reads.Learnt,
   shows-reads.Asked,
   shows-reads.Learnt,
 )
@@ -50,7 +47,6 @@ pub +value-spec : {M : Type 1} → statement M
     (λ c κs. search needs)
     (λ c κs. search needs)
     (λ c. search needs)
-    (λ c κs. search needs)
     (λ c κs. search needs)
     (λ c. search needs)
     (λ c κs. search needs)

@@ -19,11 +19,8 @@ loop-holds c = search needs
 gate-at-requires : tie.Need-gate-at-requires Inv-loop μ-loop
 gate-at-requires c κs = search needs
 
-first-requires : tie.Need-first-requires Inv-loop μ-loop
-first-requires c κs = search needs
-
-second-requires : tie.Need-second-requires Inv-loop μ-loop
-second-requires c κs = search needs
+read-by-requires : tie.Need-read-by-requires Inv-loop μ-loop
+read-by-requires c κs = search needs
 
 returns : tie.Need-returns Inv-loop μ-loop
 returns c = search needs
@@ -49,8 +46,7 @@ reads-from-spec =
     cast-count
     loop-holds
     gate-at-requires
-    first-requires
-    second-requires
+    read-by-requires
     returns
     add-i
     loop-less

@@ -5,10 +5,10 @@ use Rattle.brute_simulator.proofs.show.cells.Statement.{statement}
 use Rattle.brute_simulator.proofs.show.cells.Tie as tie
 
 abbrev Inv-loop : tie.InvT-loop
-Inv-loop d start count i₀ t5 i = i ≤ count
+Inv-loop d start count i₀ i = i ≤ count
 
 abbrev μ-loop : tie.MeasureT-loop
-μ-loop d start count i₀ t5 i = count - i
+μ-loop d start count i₀ i = count - i
 
 first-cell-requires : tie.Need-first-cell-requires Inv-loop μ-loop
 first-cell-requires c κs = search needs
@@ -19,20 +19,14 @@ cast-count c = search needs
 loop-holds : tie.Need-loop-holds Inv-loop μ-loop
 loop-holds c = search needs
 
-slice-aggregate-item : tie.Need-slice-aggregate-item Inv-loop μ-loop
-slice-aggregate-item c = search needs
-
-add-item : tie.Need-add-item Inv-loop μ-loop
-add-item c = search needs
-
-item-requires : tie.Need-item-requires Inv-loop μ-loop
-item-requires c κs = search needs
+add-cell : tie.Need-add-cell Inv-loop μ-loop
+add-cell c = search needs
 
 gate-at-requires : tie.Need-gate-at-requires Inv-loop μ-loop
 gate-at-requires c κs = search needs
 
-gate-requires : tie.Need-gate-requires Inv-loop μ-loop
-gate-requires c κs = search needs
+cell-requires : tie.Need-cell-requires Inv-loop μ-loop
+cell-requires c κs = search needs
 
 add-i : tie.Need-add-i Inv-loop μ-loop
 add-i c = search needs
@@ -55,11 +49,9 @@ cells-spec =
     first-cell-requires
     cast-count
     loop-holds
-    slice-aggregate-item
-    add-item
-    item-requires
+    add-cell
     gate-at-requires
-    gate-requires
+    cell-requires
     add-i
     loop-less
     loop-again

@@ -5,10 +5,10 @@ use Rattle.brute_simulator.proofs.show.nets.Statement.{statement}
 use Rattle.brute_simulator.proofs.show.nets.Tie as tie
 
 abbrev Inv-loop : tie.InvT-loop
-Inv-loop word list n k₀ t5 t6 k = k ≤ n
+Inv-loop word list n k₀ t5 k = k ≤ n
 
 abbrev μ-loop : tie.MeasureT-loop
-μ-loop word list n k₀ t5 t6 k = n - k
+μ-loop word list n k₀ t5 k = n - k
 
 text-requires : tie.Need-text-requires Inv-loop μ-loop
 text-requires c κs = search needs
@@ -16,14 +16,11 @@ text-requires c κs = search needs
 loop-holds : tie.Need-loop-holds Inv-loop μ-loop
 loop-holds c = search needs
 
-slice-aggregate-item : tie.Need-slice-aggregate-item Inv-loop μ-loop
-slice-aggregate-item c = search needs
-
 net-at-requires : tie.Need-net-at-requires Inv-loop μ-loop
 net-at-requires c κs = search needs
 
-item-requires : tie.Need-item-requires Inv-loop μ-loop
-item-requires c κs = search needs
+spaced-requires : tie.Need-spaced-requires Inv-loop μ-loop
+spaced-requires c κs = search needs
 
 add-k : tie.Need-add-k Inv-loop μ-loop
 add-k c = search needs
@@ -51,9 +48,8 @@ nets-spec =
     μ-loop
     text-requires
     loop-holds
-    slice-aggregate-item
     net-at-requires
-    item-requires
+    spaced-requires
     add-k
     loop-less
     loop-again
