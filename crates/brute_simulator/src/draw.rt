@@ -171,39 +171,31 @@ fn cells_of_anything(random: &mut u32, design: Design) -> Design {
     d
 }
 
-// The first nets that the flip-flops read and the outputs show, drawn below n.
+// The nets that the first flip-flops read and the first outputs show, drawn below n.
 fn with_lists(random: &mut u32, design: Design, latches: u8, outputs: u8, n: u16) -> Design {
     let mut d = design;
     let mut k: u8 = 0;
     while k < 8 {
-        let data = below(random, n);
-        let shown = below(random, n);
-        let wired = if k < latches {
-            with_data(d, k, data)
-        } else {
-            d
-        };
-        d = if k < outputs {
-            with_shown(wired, k, shown)
-        } else {
-            wired
-        };
+        let drawn = with_data(d, k, latches, below(random, n));
+        d = with_shown(drawn, k, outputs, below(random, n));
         k += 1;
     }
     d
 }
 
-fn with_data(design: Design, k: u8, net: u16) -> Design {
+// A design with a net for flip-flop k, if that is below n.
+fn with_data(design: Design, k: u8, n: u8, net: u16) -> Design {
     let mut d = design;
-    if k < 7 {
+    if k < n && k < 7 {
         d.data[k as usize] = net;
     }
     d
 }
 
-fn with_shown(design: Design, k: u8, net: u16) -> Design {
+// A design with a net for output k, if that is below n.
+fn with_shown(design: Design, k: u8, n: u8, net: u16) -> Design {
     let mut d = design;
-    if k < 8 {
+    if k < n && k < 8 {
         d.shown[k as usize] = net;
     }
     d
@@ -221,8 +213,8 @@ pub fn spoiled(random: &mut u32, design: Design) -> Design {
         3 => d.count = 257 + over as u16,
         4 => return with_gate(d, below(random, d.count), gate(random, nets, 0)),
         5 => return with_gate(d, below(random, d.count), gate(random, 1, nets)),
-        6 => return with_data(d, below(random, d.latches as u16) as u8, nets),
-        7 => return with_shown(d, over, nets),
+        6 => return with_data(d, over, 8, nets),
+        7 => return with_shown(d, over, 8, nets),
         _ => return d,
     }
     d
@@ -232,8 +224,8 @@ fn nets_of(d: Design) -> u16 {
     wrapping_add_u16(2 + d.inputs as u16 + d.latches as u16, d.count)
 }
 
-// A chain: each cell reads the next and perhaps a net that no cell drives, and depends on every cell after it. The last reads the
-// constant 0, or the first where the chain is closed.
+// A chain: each cell reads the next, and its value changes with that of the next. The last reads input 0, or the first cell where the
+// chain is closed; a flip-flop and an output read the first.
 pub fn chain(random: &mut u32, count: u16, closed: bool) -> Design {
     let sizes = Sizes {
         inputs: 2,
@@ -242,7 +234,15 @@ pub fn chain(random: &mut u32, count: u16, closed: bool) -> Design {
         count,
     };
     let start = first_cell(sizes);
-    let mut d = blank(sizes);
+    let linked = with_links(random, blank(sizes), start, count);
+    let last = if closed { start } else { 2 };
+    let ended = with_gate(linked, wrapping_sub_u16(count, 1), Gate::Not(last));
+    let listed = with_lists(random, ended, 2, 3, start);
+    with_shown(with_data(listed, 1, 2, start), 0, 3, start)
+}
+
+fn with_links(random: &mut u32, design: Design, start: u16, count: u16) -> Design {
+    let mut d = design;
     let mut i: u16 = 0;
     while i < count {
         let link = passing(random, wrapping_add_u16(start, i + 1), start);
@@ -250,9 +250,7 @@ pub fn chain(random: &mut u32, count: u16, closed: bool) -> Design {
         d = linked;
         i += 1;
     }
-    let last = if closed { start } else { 0 };
-    let ended = with_gate(d, wrapping_sub_u16(count, 1), Gate::Not(last));
-    with_lists(random, ended, 2, 3, wrapping_add_u16(start, 4))
+    d
 }
 
 // A gate of any kind whose value changes with that of a net, its other net being no cell's.

@@ -73,11 +73,14 @@ fn one_of_pair(random: &mut u32, sizes: draw::Sizes) -> netlist::Design {
 
 // Chains as deep as they have cells, open and closed to a loop.
 fn chains(random: &mut u32, tally: &mut [u32; Tally::PLACES]) {
-    compare::design(draw::chain(random, 2, true), tally);
-    compare::design(draw::chain(random, 200, false), tally);
-    compare::design(draw::chain(random, 200, false), tally);
-    compare::design(draw::chain(random, 200, true), tally);
-    compare::design(draw::chain(random, 255, false), tally);
-    compare::design(draw::chain(random, 256, false), tally);
-    compare::design(draw::chain(random, 256, true), tally);
+    chain(2, true, random, tally);
+    chain(200, false, random, tally);
+    chain(200, true, random, tally);
+    chain(255, false, random, tally);
+    chain(256, false, random, tally);
+    chain(256, true, random, tally);
+}
+
+fn chain(count: u16, closed: bool, random: &mut u32, tally: &mut [u32; Tally::PLACES]) {
+    compare::design(draw::chain(random, count, closed), tally);
 }

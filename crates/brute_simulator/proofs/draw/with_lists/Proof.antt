@@ -16,11 +16,11 @@ loop-holds c = search needs
 below-requires : tie.Need-below-requires Inv-loop μ-loop
 below-requires c κs = search needs
 
-below-requires-2 : tie.Need-below-requires-2 Inv-loop μ-loop
-below-requires-2 c κs = search needs
-
 with-data-requires : tie.Need-with-data-requires Inv-loop μ-loop
 with-data-requires c κs = search needs
+
+below-requires-2 : tie.Need-below-requires-2 Inv-loop μ-loop
+below-requires-2 c κs = search needs
 
 with-shown-requires : tie.Need-with-shown-requires Inv-loop μ-loop
 with-shown-requires c κs = search needs
@@ -45,8 +45,8 @@ with-lists-spec =
     μ-loop
     loop-holds
     below-requires
-    below-requires-2
     with-data-requires
+    below-requires-2
     with-shown-requires
     add-k
     loop-less
