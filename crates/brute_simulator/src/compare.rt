@@ -32,6 +32,7 @@ pub fn design(d: Design, tally: &mut [u32; Tally::PLACES]) {
     clocks(d, tally);
 }
 
+// Compares what tabulating a design answers and writes.
 fn tabulation(d: Design, number: u8, tally: &mut [u32; Tally::PLACES]) {
     let mut next = [7u8; ROOM];
     let mut out = [7u8; ROOM];
@@ -127,6 +128,7 @@ fn clock_row(d: Design, state: usize, tally: &mut [u32; Tally::PLACES]) {
     }
 }
 
+// Compares one clock, or the refusal of it.
 fn clock(
     d: Design,
     state: usize,
@@ -204,6 +206,7 @@ fn set_from(bytes: &[u8], from: usize) -> usize {
     n
 }
 
+// The byte at a place, 0 past the end.
 fn byte_at(bytes: &[u8], k: usize) -> usize {
     if bytes.len() <= k {
         return 0;
@@ -215,10 +218,12 @@ fn wide(byte: u8) -> usize {
     byte as usize
 }
 
+// How many states a design has.
 fn states(d: Design) -> usize {
     power(d.latches)
 }
 
+// How many vectors a design has.
 fn vectors(d: Design) -> usize {
     power(d.inputs)
 }
@@ -250,10 +255,12 @@ fn judge(
     printed
 }
 
+// Whether two answers are equal.
 fn same(a: Answer, b: Answer) -> bool {
     a.number == b.number && a.first == b.first && a.second == b.second && a.third == b.third
 }
 
+// A refusal; 0 is none.
 fn refused(number: u8) -> Answer {
     Answer {
         number: number as usize,
@@ -263,6 +270,7 @@ fn refused(number: u8) -> Answer {
     }
 }
 
+// An answer without a refusal.
 fn answered(first: usize, second: usize, third: usize) -> Answer {
     Answer {
         number: 0,
@@ -278,6 +286,7 @@ fn stepped(d: Design, state: usize, vector: usize) -> Answer {
     answered(s.next as usize, s.out as usize, 0)
 }
 
+// What the product answers to a clock.
 fn clocked(r: Clocked) -> Answer {
     match r {
         Clocked::Step { next, out } => answered(next as usize, out as usize, 0),
@@ -285,6 +294,7 @@ fn clocked(r: Clocked) -> Answer {
     }
 }
 
+// What the product answers to a design.
 fn tabulated(r: Tabulated) -> Answer {
     match r {
         Tabulated::Table { states, vectors } => answered(states, vectors, 0),
@@ -292,6 +302,7 @@ fn tabulated(r: Tabulated) -> Answer {
     }
 }
 
+// What the product answers to two designs.
 fn both(r: TabulatedBoth) -> Answer {
     match r {
         TabulatedBoth::Both { old, new, vectors } => answered(old, new, vectors),

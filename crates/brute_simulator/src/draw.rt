@@ -74,6 +74,7 @@ fn with_cells(
     d
 }
 
+// The number of the net that cell 0 drives.
 fn first_cell(sizes: Sizes) -> u16 {
     2 + sizes.inputs as u16 + sizes.latches as u16
 }
@@ -92,12 +93,14 @@ fn shuffled(random: &mut u32, count: u16) -> [u16; Image::MOST_CELLS] {
     order
 }
 
+// Sets the cell at a place of an order.
 fn put(order: &mut [u16; Image::MOST_CELLS], k: u16, cell: u16) {
     if k < 256 {
         order[k as usize] = cell;
     }
 }
 
+// The cell at a place of an order.
 fn cell_at(order: &[u16; Image::MOST_CELLS], k: u16) -> u16 {
     if k < 256 {
         return order[k as usize];
@@ -128,6 +131,7 @@ fn gate(random: &mut u32, a: u16, b: u16) -> Gate {
     }
 }
 
+// A design with a gate for cell i.
 fn with_gate(design: Design, i: u16, gate: Gate) -> Design {
     let mut d = design;
     if i < 256 {
@@ -146,6 +150,7 @@ fn unwired(random: &mut u32, sizes: Sizes) -> Design {
     with_lists(random, e, 8, 8, 65535)
 }
 
+// A design of these sizes whose cells are BUF of net 0 and whose lists hold net 0.
 fn blank(sizes: Sizes) -> Design {
     Design {
         inputs: sizes.inputs,
@@ -158,6 +163,7 @@ fn blank(sizes: Sizes) -> Design {
     }
 }
 
+// A design whose cells read any numbers, nets or not.
 fn cells_of_anything(random: &mut u32, design: Design) -> Design {
     let mut d = design;
     let mut i: u16 = 0;
@@ -220,6 +226,7 @@ pub fn spoiled(random: &mut u32, design: Design) -> Design {
     d
 }
 
+// How many nets a design has.
 fn nets_of(d: Design) -> u16 {
     wrapping_add_u16(2 + d.inputs as u16 + d.latches as u16, d.count)
 }
@@ -241,6 +248,7 @@ pub fn chain(random: &mut u32, count: u16, closed: bool) -> Design {
     with_shown(with_data(listed, 1, 2, start), 0, 3, start)
 }
 
+// A design whose every cell reads the next.
 fn with_links(random: &mut u32, design: Design, start: u16, count: u16) -> Design {
     let mut d = design;
     let mut i: u16 = 0;

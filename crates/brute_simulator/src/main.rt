@@ -81,6 +81,7 @@ fn chains(random: &mut u32, tally: &mut [u32; Tally::PLACES]) {
     chain(256, true, random, tally);
 }
 
+// Compares one chain.
 fn chain(count: u16, closed: bool, random: &mut u32, tally: &mut [u32; Tally::PLACES]) {
     compare::design(draw::chain(random, count, closed), tally);
 }

@@ -13,12 +13,14 @@ pub fn below(random: &mut u32, n: u16) -> u16
     upper_half(next) % n
 }
 
+// One step of the sequence.
 fn stir(x: u32) -> u32 {
     let a = x ^ (x << 13);
     let b = a ^ (a >> 17);
     b ^ (b << 5)
 }
 
+// The upper 16 bits.
 fn upper_half(x: u32) -> u16 {
     (x >> 16) as u16
 }

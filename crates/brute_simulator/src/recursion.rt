@@ -21,6 +21,7 @@ pub fn number(d: Design) -> u8 {
     0
 }
 
+// Whether a size is over its limit.
 fn size_over(d: Design) -> bool {
     6 < d.inputs || 7 < d.latches || 8 < d.outputs || 256 < d.count
 }
@@ -198,6 +199,7 @@ pub fn first_cell(d: Design) -> usize
     2 + d.inputs as usize + d.latches as usize
 }
 
+// The gate of a cell.
 pub fn gate_at(d: Design, i: usize) -> Gate {
     if 256 <= i {
         return Gate::Buf(0);
@@ -206,6 +208,7 @@ pub fn gate_at(d: Design, i: usize) -> Gate {
     c.gate
 }
 
+// The net at a place of a list, 0 past its end.
 pub fn net_at(list: &[u16], k: usize) -> usize {
     if list.len() <= k {
         return 0;
@@ -217,12 +220,13 @@ fn wide(net: u16) -> usize {
     net as usize
 }
 
-// The nets that a gate reads; the second is the constant 0 where it reads one net.
+// Two nets to read; the second is the constant 0 where a gate reads one.
 pub struct Reads {
     pub first: usize,
     pub second: usize,
 }
 
+// The nets that a gate reads.
 pub fn read_by(g: Gate) -> Reads {
     match g {
         Gate::Buf(a) => one_net(a),

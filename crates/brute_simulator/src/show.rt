@@ -34,7 +34,7 @@ fn by_number(tally: &[u32; Tally::PLACES], place: usize) {
     line(b"  REFUSED 9", tally::with_number(tally, place, 9));
 }
 
-// What was compared, what the product answered and what the recursion finds: a number of refusal or 0, and the answer.
+// What was compared, what the product answered and what the recursion finds.
 pub fn disagreement(what: &[u8], found: Answer, expected: Answer) {
     text(b"DISAGREEMENT ");
     text(what);
@@ -42,6 +42,7 @@ pub fn disagreement(what: &[u8], found: Answer, expected: Answer) {
     side(b"  EXPECTED", expected);
 }
 
+// A word, a number of refusal or 0, and an answer.
 fn side(word: &[u8], a: Answer) {
     text(word);
     spaced(a.number);
@@ -71,7 +72,7 @@ pub fn design(d: Design) {
     lists(d);
 }
 
-// One line a cell: the net that it drives, its kind and the nets that it reads.
+// One line a cell.
 fn cells(d: Design) {
     let start = recursion::first_cell(d);
     let count = d.count as usize;
@@ -82,6 +83,7 @@ fn cells(d: Design) {
     }
 }
 
+// The net that a cell drives, its kind and the nets that it reads.
 fn cell(net: usize, g: Gate) {
     text(b"  NET KIND READS");
     spaced(net);
@@ -132,6 +134,7 @@ fn line(word: &[u8], n: u32) {
     text(b"\n");
 }
 
+// A space and a number.
 fn spaced(n: usize) {
     text(b" ");
     io::print_decimal(1, n as u64);

@@ -22,6 +22,7 @@ impl Tally {
     pub const PLACES: usize = 32;
 }
 
+// Adds to a count.
 pub fn add(tally: &mut [u32; Tally::PLACES], place: usize, n: u32) {
     if place < Tally::PLACES {
         tally[place] = std::num::wrapping_add_u32(tally[place], n);
@@ -43,6 +44,7 @@ pub fn with_number(tally: &[u32; Tally::PLACES], place: usize, number: u8) -> u3
     0
 }
 
+// Where those with a number are counted.
 fn place_of(place: usize, number: u8) -> usize {
     std::num::wrapping_add_usize(place, 1 + number as usize)
 }
