@@ -84,12 +84,24 @@ pub fn later(at: usize, n: usize) -> usize {
 // Spreads the first n bytes, and zeros behind them.
 pub fn spread(bytes: &[u8], n: usize, bits: &mut [u8]) {
     for i in 0..BYTES {
-        let byte = if i < n { lists::byte_at(bytes, i) } else { 0 };
-        put_three(bits, 8 * i, byte / 32);
-        put_three(bits, 8 * i + 3, byte / 4 % 8);
-        lists::put_byte(bits, 8 * i + 6, byte / 2 % 2);
-        lists::put_byte(bits, 8 * i + 7, byte % 2);
+        put_eight(bits, 8 * i, byte_before(bytes, i, n));
     }
+}
+
+// The byte at a place, 0 from n on.
+fn byte_before(bytes: &[u8], i: usize, n: usize) -> u8 {
+    if i < n {
+        return lists::byte_at(bytes, i);
+    }
+    0
+}
+
+// Puts the bits of a byte.
+fn put_eight(bits: &mut [u8], at: usize, byte: u8) {
+    put_three(bits, at, byte / 32);
+    put_three(bits, later(at, 3), byte / 4 % 8);
+    lists::put_byte(bits, later(at, 6), byte / 2 % 2);
+    lists::put_byte(bits, later(at, 7), byte % 2);
 }
 
 // The bytes of spread bits.

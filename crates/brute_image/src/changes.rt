@@ -13,11 +13,15 @@ pub fn every_flip(seed: u32, image: &mut [u8], n: usize, counts: &mut [u32]) {
     let all = bits_in(n);
     for place in 0..all {
         flipped(image, n, place, tally::FLIPS, counts);
-        let other = draw::below(seed, place, all);
-        flip(image, other);
-        flipped(image, n, place, tally::PAIRS, counts);
-        flip(image, other);
+        pair_flipped(image, n, place, draw::below(seed, place, all), counts);
     }
+}
+
+// Reads an image with two bits flipped.
+fn pair_flipped(image: &mut [u8], n: usize, one: usize, other: usize, counts: &mut [u32]) {
+    flip(image, other);
+    flipped(image, n, one, tally::PAIRS, counts);
+    flip(image, other);
 }
 
 // Reads an image with some drawn bits flipped, one at a time.
@@ -55,14 +59,17 @@ fn bits_in(n: usize) -> usize {
     0
 }
 
-// Reads an image with a byte behind it, 0 and not 0.
+// Reads an image with a byte behind it, not 0 and 0.
 pub fn longer(image: &mut [u8], n: usize, counts: &mut [u32]) {
+    one_more(image, n, 64, counts);
+    one_more(image, n, 0, counts);
+}
+
+// Reads an image with one byte behind it.
+fn one_more(image: &mut [u8], n: usize, byte: u8, counts: &mut [u32]) {
+    lists::put_byte(image, n, byte);
     compare::image(image, std::num::wrapping_add_usize(n, 1), counts);
     lists::bump(counts, tally::LONGER);
-    lists::put_byte(image, n, 64);
-    compare::image(image, std::num::wrapping_add_usize(n, 1), counts);
-    lists::bump(counts, tally::LONGER);
-    lists::put_byte(image, n, 0);
 }
 
 // Reads an image cut at every length.

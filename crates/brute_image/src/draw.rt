@@ -4,11 +4,16 @@
 use crate::lists;
 use crate::plain;
 
+// The low 32 bits of a product.
+fn times(x: u32) -> u32 {
+    (x as u64 * 0x7feb352d % 4294967296) as u32
+}
+
 // Stirs the bits of a number.
 fn stirred(x: u32) -> u32 {
-    let once = (x as u64 ^ (x as u64 >> 16)) * 0x7feb352d % 4294967296;
-    let twice = (once ^ (once >> 15)) * 0x846ca68b % 4294967296;
-    ((twice ^ (twice >> 16)) % 4294967296) as u32
+    let once = times(x ^ (x >> 16));
+    let twice = times(once ^ (once >> 15));
+    twice ^ (twice >> 16)
 }
 
 // The number that a seed and a place fix.
@@ -27,10 +32,7 @@ pub fn below(seed: u32, place: usize, n: usize) -> usize {
 
 // Draws an accepted design with a number of cells; what is beyond its sizes stays 0.
 pub fn design(seed: u32, count: usize, list: &mut [u16]) {
-    lists::put_number(list, plain::INPUTS, lists::narrow(below(seed, 0, 7)));
-    lists::put_number(list, plain::LATCHES, lists::narrow(below(seed, 1, 8)));
-    lists::put_number(list, plain::OUTPUTS, lists::narrow(below(seed, 2, 9)));
-    lists::put_number(list, plain::COUNT, lists::narrow(count));
+    sizes(seed, count, list);
     cells(seed, count, list);
     let latches = plain::size_at(list, plain::LATCHES);
     nets(seed, plain::DATA, latches, list);
@@ -38,12 +40,23 @@ pub fn design(seed: u32, count: usize, list: &mut [u16]) {
     nets(seed, plain::SHOWN, outputs, list);
 }
 
-// Draws the cells.
-fn cells(seed: u32, count: usize, list: &mut [u16]) {
-    for i in 0..256 {
-        if i < count {
-            cell(seed, i, list);
-        }
+// Draws the sizes but the number of cells.
+fn sizes(seed: u32, count: usize, list: &mut [u16]) {
+    size(seed, plain::INPUTS, 7, list);
+    size(seed, plain::LATCHES, 8, list);
+    size(seed, plain::OUTPUTS, 9, list);
+    lists::put_number(list, plain::COUNT, lists::narrow(count));
+}
+
+// Draws a size below a number.
+fn size(seed: u32, place: usize, n: usize, list: &mut [u16]) {
+    lists::put_number(list, place, lists::narrow(below(seed, place, n)));
+}
+
+// Draws n cells.
+fn cells(seed: u32, n: usize, list: &mut [u16]) {
+    for i in 0..n {
+        cell(seed, i, list);
     }
 }
 
@@ -94,25 +107,19 @@ fn nets(seed: u32, place: usize, n: usize, list: &mut [u16]) {
 // Puts drawn numbers beyond the sizes of a design, where they count for nothing.
 pub fn litter(seed: u32, list: &mut [u16]) {
     let count = plain::size_at(list, plain::COUNT);
-    for i in 0..256 {
-        if i >= count {
-            let place = plain::cell_place(i);
-            let first = lists::narrow(below(seed, place + 1, 600));
-            plain::put_cell(list, i, 2, first, lists::narrow(below(seed, place, 600)));
-        }
+    litter_cells(seed, count, list);
+    let data = plain::DATA + plain::size_at(list, plain::LATCHES);
+    litter_nets(seed, data, plain::SHOWN, list);
+    let shown = plain::SHOWN + plain::size_at(list, plain::OUTPUTS);
+    litter_nets(seed, shown, plain::NUMBERS, list);
+}
+
+// Puts cells of drawn nets from one on.
+fn litter_cells(seed: u32, from: usize, list: &mut [u16]) {
+    for i in from..256 {
+        let first = lists::narrow(below(seed, i, 600));
+        plain::put_cell(list, i, 2, first, first);
     }
-    litter_nets(
-        seed,
-        plain::DATA + plain::size_at(list, plain::LATCHES),
-        plain::SHOWN,
-        list,
-    );
-    litter_nets(
-        seed,
-        plain::SHOWN + plain::size_at(list, plain::OUTPUTS),
-        plain::NUMBERS,
-        list,
-    );
 }
 
 // Puts drawn numbers from one place to before another.

@@ -5,9 +5,9 @@ use crate::lists;
 use crate::loops;
 use crate::plain;
 
-pub const HEADER: usize = 25;
+const HEADER: usize = 25;
 
-pub const CELL: usize = 21;
+const CELL: usize = 21;
 
 pub const NET: usize = 9;
 
@@ -28,13 +28,30 @@ pub fn note(found: &mut [u8], k: usize, yes: bool) {
     }
 }
 
+// The bit at which cell i starts; the nets behind the cells start where a further cell would.
+pub fn cell_at(i: usize) -> usize
+    ensures { λ r. ⌜ r ≤ 1500000 ⌝ }
+{
+    if i < 65536 {
+        return HEADER + CELL * i;
+    }
+    0
+}
+
+// The bit at which net k starts of those that start at a bit.
+pub fn net_at(from: usize, k: usize) -> usize {
+    if k < 65536 {
+        return std::num::wrapping_add_usize(from, NET * k);
+    }
+    0
+}
+
 // Where the fields of a design of these sizes end, in bits.
 pub fn fields_end(list: &[u16]) -> usize
     ensures { λ r. ⌜ r ≤ 3000000 ⌝ }
 {
-    let cells = CELL * plain::size_at(list, plain::COUNT);
     let nets = plain::size_at(list, plain::LATCHES) + plain::size_at(list, plain::OUTPUTS);
-    HEADER + cells + NET * nets
+    cell_at(plain::size_at(list, plain::COUNT)) + NET * nets
 }
 
 // How many bytes hold the fields of a design of these sizes.
@@ -79,8 +96,7 @@ pub fn net_over(list: &[u16]) -> bool {
 // Whether a cell in use names a net that is not below a number.
 fn cell_over(list: &[u16], nets: usize) -> bool {
     for i in 0..plain::size_at(list, plain::COUNT) {
-        let place = plain::cell_place(i);
-        if one_over(list, place + 1, 2, nets) {
+        if one_over(list, plain::cell_place(i) + 1, 2, nets) {
             return true;
         }
     }
@@ -100,14 +116,19 @@ fn one_over(list: &[u16], from: usize, n: usize, nets: usize) -> bool {
 // 6 in the cells of a list.
 pub fn unread_set(list: &[u16]) -> bool {
     for i in 0..plain::size_at(list, plain::COUNT) {
-        let place = plain::cell_place(i);
-        if lists::number_at(list, place) < 2 {
-            if lists::number_at(list, place + 2) != 0 {
-                return true;
-            }
+        if unread_set_in(list, i) {
+            return true;
         }
     }
     false
+}
+
+// Whether a cell that reads one net names a second.
+fn unread_set_in(list: &[u16], i: usize) -> bool {
+    if plain::nets_read(list, i) == 2 {
+        return false;
+    }
+    lists::number_at(list, plain::cell_place(i) + 2) != 0
 }
 
 // The lowest number of a design in memory that is to be written into a slice of n bytes; 0 for none.

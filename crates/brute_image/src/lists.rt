@@ -46,13 +46,6 @@ pub fn bump(list: &mut [u32], i: usize) {
     }
 }
 
-// Sets the first n bytes to 0.
-pub fn clear_bytes(list: &mut [u8], n: usize) {
-    for i in 0..n {
-        put_byte(list, i, 0);
-    }
-}
-
 // Sets the first n numbers to 0.
 pub fn clear_numbers(list: &mut [u16], n: usize) {
     for i in 0..n {

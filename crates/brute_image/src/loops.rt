@@ -14,28 +14,38 @@ pub fn found(list: &[u16]) -> bool {
     false
 }
 
-// Grows the set of one cell, at most once for each cell there can be, and looks for the cell in it.
+// Grows the set of one cell, and looks for the cell in it.
 fn reaches_itself(list: &[u16], cell: usize) -> bool {
     let mut reached = [0u8; 256];
     add_read(list, cell, &mut reached);
-    for _ in 0..256 {
-        if grow(list, &mut reached) == 0 {
-            break;
+    grow_all(list, 256, &mut reached);
+    lists::byte_at(&reached, cell) == 1
+}
+
+// Grows a set until nothing is added; each time but the last adds one of n cells.
+fn grow_all(list: &[u16], n: usize, reached: &mut [u8]) {
+    for _ in 0..n {
+        if grow(list, reached) == 0 {
+            return;
         }
     }
-    lists::byte_at(&reached, cell) == 1
 }
 
 // Adds what the cells of a set read, the last cell first; answers 0 where that is in the set already.
 fn grow(list: &[u16], reached: &mut [u8]) -> u8 {
     let mut added = 0;
     for i in 0..256 {
-        let cell = 255 - i;
-        if lists::byte_at(reached, cell) == 1 {
-            added |= add_read(list, cell, reached);
-        }
+        added |= add_behind(list, 255 - i, reached);
     }
     added
+}
+
+// Adds what a cell reads, if the cell is in the set; answers 0 where none is new.
+fn add_behind(list: &[u16], cell: usize, reached: &mut [u8]) -> u8 {
+    if lists::byte_at(reached, cell) == 0 {
+        return 0;
+    }
+    add_read(list, cell, reached)
 }
 
 // Adds the cells that one cell reads; answers 0 where none is new.

@@ -6,17 +6,26 @@ use crate::lists;
 use crate::loops;
 use crate::plain;
 
-// The lowest number of n bytes, spread; the design goes into the list, which is all 0 beside a number. 0 for none.
+// The lowest number of n bytes, spread; 0 for none. The design goes into the list, which is all 0 beside a number.
 pub fn read(bits: &[u8], n: usize, list: &mut [u16]) -> usize {
     lists::clear_numbers(list, plain::NUMBERS);
-    let mut number = header_number(bits, n, list);
+    let number = any_number(bits, n, list);
     if number == 0 {
-        number = fields_number(bits, n, list);
+        return 0;
     }
-    if number != 0 {
-        lists::clear_numbers(list, plain::NUMBERS);
-    }
+    lists::clear_numbers(list, plain::NUMBERS);
     number
+}
+
+// The lowest number of n bytes, with what was taken in the list.
+fn any_number(bits: &[u8], n: usize, list: &mut [u16]) -> usize {
+    let number = header_number(bits, n, list);
+    if number != 0 {
+        return number;
+    }
+    take_cells(bits, plain::size_at(list, plain::COUNT), list);
+    take_tails(bits, list);
+    fields_number(bits, n, list)
 }
 
 // The lowest of 1 to 4 in n bytes, spread; the sizes go into the list. 0 for none.
@@ -38,19 +47,14 @@ fn header(bits: &[u8], list: &mut [u16]) {
     lists::put_number(list, plain::COUNT, bits::nine(bits, 16));
 }
 
-// The lowest of 5 to 9 in an image whose header and length are right.
-fn fields_number(bits: &[u8], n: usize, list: &mut [u16]) -> usize {
+// The lowest of 5 to 9 in an image whose header and length are right, and whose fields stand in a list.
+fn fields_number(bits: &[u8], n: usize, list: &[u16]) -> usize {
     let mut found = [0u8; 16];
-    take_cells(bits, list);
-    take_tails(bits, list);
     let wanted = faults::bytes_wanted(list);
+    let pad = bit_set(bits, faults::fields_end(list), 8 * wanted);
     faults::note(&mut found, 5, faults::net_over(list));
     faults::note(&mut found, 6, faults::unread_set(list));
-    faults::note(
-        &mut found,
-        7,
-        bit_set(bits, faults::fields_end(list), 8 * wanted),
-    );
+    faults::note(&mut found, 7, pad);
     faults::note(&mut found, 8, wanted < n);
     faults::note(&mut found, 9, loops::found(list));
     faults::lowest(&found)
@@ -66,39 +70,40 @@ fn bit_set(bits: &[u8], from: usize, to: usize) -> bool {
     false
 }
 
-// Takes the cells, an unread second net too.
-fn take_cells(bits: &[u8], list: &mut [u16]) {
-    for i in 0..256 {
-        if i < plain::size_at(list, plain::COUNT) {
-            let at = faults::HEADER + faults::CELL * i;
-            let kind = bits::kind(bits, at);
-            let first = bits::nine(bits, at + 3);
-            plain::put_cell(list, i, kind, first, bits::nine(bits, at + 12));
-        }
+// Takes the first n cells.
+fn take_cells(bits: &[u8], n: usize, list: &mut [u16]) {
+    for i in 0..n {
+        take_cell(bits, i, list);
     }
+}
+
+// Takes one cell, an unread second net too.
+fn take_cell(bits: &[u8], i: usize, list: &mut [u16]) {
+    let at = faults::cell_at(i);
+    let kind = bits::kind(bits, at);
+    let first = bits::nine(bits, at + 3);
+    plain::put_cell(list, i, kind, first, bits::nine(bits, at + 12));
 }
 
 // Takes the nets behind the cells.
 fn take_tails(bits: &[u8], list: &mut [u16]) {
-    let data_at = faults::HEADER + faults::CELL * plain::size_at(list, plain::COUNT);
+    let at = faults::cell_at(plain::size_at(list, plain::COUNT));
     let latches = plain::size_at(list, plain::LATCHES);
-    take_nets(bits, data_at, latches, list, plain::DATA);
+    take_nets(bits, at, latches, list, plain::DATA);
     let outputs = plain::size_at(list, plain::OUTPUTS);
-    take_nets(
-        bits,
-        data_at + faults::NET * latches,
-        outputs,
-        list,
-        plain::SHOWN,
-    );
+    let behind = at + faults::NET * latches;
+    take_nets(bits, behind, outputs, list, plain::SHOWN);
 }
 
-// Takes n nets, from a bit on, into a list.
+// Takes net k of those that start at a bit, to its place in a list.
+fn take_net(bits: &[u8], from: usize, k: usize, list: &mut [u16], place: usize) {
+    let net = bits::nine(bits, faults::net_at(from, k));
+    lists::put_number(list, bits::later(place, k), net);
+}
+
+// Takes n nets that start at a bit.
 fn take_nets(bits: &[u8], from: usize, n: usize, list: &mut [u16], place: usize) {
-    let mut at = from;
     for k in 0..n {
-        let to = std::num::wrapping_add_usize(place, k);
-        lists::put_number(list, to, bits::nine(bits, at));
-        at = bits::later(at, faults::NET);
+        take_net(bits, from, k, list, place);
     }
 }

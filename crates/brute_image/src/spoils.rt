@@ -21,28 +21,28 @@ pub fn each(list: &mut [u16], counts: &mut [u32]) {
 
 // Spoils each size and each net in use.
 fn each_number(list: &mut [u16], counts: &mut [u32]) {
-    spoiled(list, plain::INPUTS, 7, counts);
-    spoiled(list, plain::LATCHES, 8, counts);
-    spoiled(list, plain::OUTPUTS, 9, counts);
-    spoiled(list, plain::COUNT, 257, counts);
-    cells(list, counts);
+    sizes(list, counts);
+    let count = plain::size_at(list, plain::COUNT);
+    cells(list, count, counts);
     let latches = plain::size_at(list, plain::LATCHES);
     nets(list, plain::DATA, latches, counts);
     let outputs = plain::size_at(list, plain::OUTPUTS);
     nets(list, plain::SHOWN, outputs, counts);
 }
 
-// Spoils each net that a cell reads.
-fn cells(list: &mut [u16], counts: &mut [u32]) {
-    for i in 0..256 {
-        if i < plain::size_at(list, plain::COUNT) {
-            nets(
-                list,
-                plain::cell_place(i) + 1,
-                plain::nets_read(list, i),
-                counts,
-            );
-        }
+// Spoils each size: one above its limit.
+fn sizes(list: &mut [u16], counts: &mut [u32]) {
+    spoiled(list, plain::INPUTS, 7, counts);
+    spoiled(list, plain::LATCHES, 8, counts);
+    spoiled(list, plain::OUTPUTS, 9, counts);
+    spoiled(list, plain::COUNT, 257, counts);
+}
+
+// Spoils each net that the first n cells read.
+fn cells(list: &mut [u16], n: usize, counts: &mut [u32]) {
+    for i in 0..n {
+        let read = plain::nets_read(list, i);
+        nets(list, plain::cell_place(i) + 1, read, counts);
     }
 }
 
@@ -65,9 +65,14 @@ fn net(list: &mut [u16], place: usize, counts: &mut [u32]) {
 fn spoiled(list: &mut [u16], place: usize, number: u16, counts: &mut [u32]) {
     let kept = lists::number_at(list, place);
     lists::put_number(list, place, number);
+    two_slices(list, counts);
+    lists::put_number(list, place, kept);
+}
+
+// Writes a spoiled design into slices that are just long enough for its sizes, and a byte short.
+fn two_slices(list: &[u16], counts: &mut [u32]) {
     let n = faults::bytes_wanted(list);
     compare::writing(list, n, counts);
     compare::writing(list, std::num::wrapping_sub_usize(n, 1), counts);
     lists::bump(counts, tally::SPOILED);
-    lists::put_number(list, place, kept);
 }

@@ -47,24 +47,32 @@ fn decimal(n: usize) {
     io::print_decimal(1, n as u64);
 }
 
-// Counts a disagreement and prints it, if few were printed: what was tried, both answers, and the n bytes of the image.
-pub fn disagree(
-    what: &[u8],
-    image: &[u8],
-    n: usize,
-    wanted: usize,
-    got: usize,
-    counts: &mut [u32],
-) {
+// Two answers, and whether they and what came with them agree.
+pub struct Both {
+    pub agree: bool,
+    pub wanted: usize,
+    pub got: usize,
+}
+
+// Counts a disagreement about the image in n bytes, and prints it, if few were printed.
+pub fn hold(what: &[u8], both: Both, image: &[u8], n: usize, counts: &mut [u32]) {
+    if both.agree {
+        return;
+    }
     lists::bump(counts, DISAGREEMENTS);
     if lists::count_at(counts, DISAGREEMENTS) > MOST_SHOWN {
         return;
     }
+    disagreement(what, both, image, n);
+}
+
+// Prints what was tried, both answers, and the image.
+fn disagreement(what: &[u8], both: Both, image: &[u8], n: usize) {
     text(what);
     text(b": second way ");
-    decimal(wanted);
+    decimal(both.wanted);
     text(b", product ");
-    decimal(got);
+    decimal(both.got);
     text(b", image");
     hexadecimal(image, n);
     text(b"\n");

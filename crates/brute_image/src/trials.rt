@@ -15,57 +15,69 @@ const SMALL: usize = 300;
 
 const FEW: usize = 7;
 
-// One design for each number of cells, its image with some bits flipped, and cut.
+// One design for each number of cells.
 pub fn every_count(counts: &mut [u32]) {
     for count in 0..257 {
-        let mut list = [0u16; plain::NUMBERS];
-        draw::design(count as u32, count, &mut list);
-        large(count as u32, &list, counts);
+        large(count as u32, count, counts);
     }
 }
 
-// Tries a design of any size.
-fn large(seed: u32, list: &[u16], counts: &mut [u32]) {
-    let n = faults::bytes_wanted(list);
+// Draws a design with a number of cells; its image with some bits flipped, with a byte more, and cut.
+fn large(seed: u32, count: usize, counts: &mut [u32]) {
+    let mut list = [0u16; plain::NUMBERS];
+    draw::design(seed, count, &mut list);
     let mut image = [0u8; bits::BYTES];
-    whole(seed, list, n, &mut image, counts);
+    whole(seed, &list, &mut image, counts);
+    let n = faults::bytes_wanted(&list);
     changes::drawn_flips(seed, &mut image, n, counts);
     changes::longer(&mut image, n, counts);
     changes::cuts(&image, n, counts);
 }
 
-// Designs with few cells: each bit of the image flipped, and each number of the design spoiled.
+// Designs with few cells.
 pub fn small_designs(counts: &mut [u32]) {
     for k in 0..SMALL {
-        let seed = 1000 + k as u32;
-        let mut list = [0u16; plain::NUMBERS];
-        draw::design(seed, draw::below(seed, 3, FEW), &mut list);
-        small(seed, &list, counts);
-        spoils::each(&mut list, counts);
+        small(1000 + k as u32, counts);
     }
 }
 
-// Tries a design whose image is short.
-fn small(seed: u32, list: &[u16], counts: &mut [u32]) {
-    let n = faults::bytes_wanted(list);
+// Draws a design with few cells; its image with each bit flipped, with a byte more, and cut; and the design spoiled.
+fn small(seed: u32, counts: &mut [u32]) {
+    let mut list = [0u16; plain::NUMBERS];
+    draw::design(seed, draw::below(seed, 3, FEW), &mut list);
     let mut image = [0u8; bits::BYTES];
-    whole(seed, list, n, &mut image, counts);
+    whole(seed, &list, &mut image, counts);
+    let n = faults::bytes_wanted(&list);
     changes::every_flip(seed, &mut image, n, counts);
     changes::longer(&mut image, n, counts);
     changes::cuts(&image, n, counts);
+    spoils::each(&mut list, counts);
 }
 
-// Writes a drawn design, clean and with numbers beyond its sizes, and reads its image, which is handed back.
-fn whole(seed: u32, list: &[u16], n: usize, image: &mut [u8], counts: &mut [u32]) {
+// Writes a drawn design and reads its image, which is handed back.
+fn whole(seed: u32, list: &[u16], image: &mut [u8], counts: &mut [u32]) {
     note_sizes(list, counts);
+    written(seed, list, counts);
+    second_writer::write(list, image);
+    read(list, image, counts);
+}
+
+// Writes a drawn design, clean and with numbers beyond its sizes.
+fn written(seed: u32, list: &[u16], counts: &mut [u32]) {
+    let n = faults::bytes_wanted(list);
     rooms(list, n, counts);
     let mut littered = [0u16; plain::NUMBERS];
     lists::copy_numbers(list, &mut littered, plain::NUMBERS);
     draw::litter(seed, &mut littered);
     rooms(&littered, n, counts);
-    second_writer::write(list, image);
+}
+
+// Reads the image of a drawn design.
+fn read(list: &[u16], image: &[u8], counts: &mut [u32]) {
+    let n = faults::bytes_wanted(list);
     compare::image(image, n, counts);
-    compare::round_trip(list, image, n, counts);
+    compare::reads_back(list, image, n, counts);
+    compare::writes_back(image, n, counts);
 }
 
 // Writes a design of n bytes into slices that are too short, just long enough, and longer.
