@@ -97,7 +97,7 @@ fn compare_alike(m: Machines, known: Answers, tally: &mut [u64]) {
     let old_out = m.old_out;
     let new_next = m.new_next;
     let new_out = m.new_out;
-    match engine::map_alike(
+    let mapped = engine::map_alike(
         &old_next,
         &old_out,
         &new_next,
@@ -106,7 +106,15 @@ fn compare_alike(m: Machines, known: Answers, tally: &mut [u64]) {
         &mut depth,
         &mut reach,
         &mut mark,
-    ) {
+    );
+    expect(
+        b"MARKS OF ALIKE PAIRS",
+        has_bytes(&mark, known.pairs, &known.alike, 0),
+        m,
+        tally,
+    );
+    expect_zero(b"SCRATCH OF ALIKE PAIRS", &depth, &reach, m, tally);
+    match mapped {
         MappedAlike::Marked { count, round } => {
             expect(
                 b"COUNT OF ALIKE PAIRS",
@@ -118,13 +126,6 @@ fn compare_alike(m: Machines, known: Answers, tally: &mut [u64]) {
         }
         MappedAlike::Refused(_) => expect(b"MAP OF ALIKE PAIRS", false, m, tally),
     }
-    expect(
-        b"MARKS OF ALIKE PAIRS",
-        has_bytes(&mark, known.pairs, &known.alike, 0),
-        m,
-        tally,
-    );
-    expect_zero(b"SCRATCH OF ALIKE PAIRS", &depth, &reach, m, tally);
 }
 
 // The map of alignable pairs.
@@ -136,7 +137,7 @@ fn compare_alignable(m: Machines, known: Answers, tally: &mut [u64]) {
     let old_out = m.old_out;
     let new_next = m.new_next;
     let new_out = m.new_out;
-    match engine::map_alignable(
+    let mapped = engine::map_alignable(
         &old_next,
         &old_out,
         &new_next,
@@ -145,7 +146,15 @@ fn compare_alignable(m: Machines, known: Answers, tally: &mut [u64]) {
         &mut depth,
         &mut reach,
         &mut mark,
-    ) {
+    );
+    expect(
+        b"MARKS OF ALIGNABLE PAIRS",
+        has_bytes(&mark, known.pairs, &known.alignable, 0),
+        m,
+        tally,
+    );
+    expect_zero(b"SCRATCH OF ALIGNABLE PAIRS", &depth, &reach, m, tally);
+    match mapped {
         MappedAlignable::Marked(count) => expect(
             b"COUNT OF ALIGNABLE PAIRS",
             count == known.alignable_count,
@@ -154,13 +163,6 @@ fn compare_alignable(m: Machines, known: Answers, tally: &mut [u64]) {
         ),
         MappedAlignable::Refused(_) => expect(b"MAP OF ALIGNABLE PAIRS", false, m, tally),
     }
-    expect(
-        b"MARKS OF ALIGNABLE PAIRS",
-        has_bytes(&mark, known.pairs, &known.alignable, 0),
-        m,
-        tally,
-    );
-    expect_zero(b"SCRATCH OF ALIGNABLE PAIRS", &depth, &reach, m, tally);
 }
 
 // The trace and the list of every pair.

@@ -12,15 +12,15 @@ use machine::Sizes;
 use std::num::wrapping_add_usize;
 use std::num::wrapping_sub_usize;
 
-// The ways of drawing.
+// The ways of drawing: apart, renamed, and renamed with one entry changed.
 const WAYS: usize = 3;
 
-const RENAMED: usize = 1;
+const APART: usize = 0;
 
 const CHANGED: usize = 2;
 
 // How many pairs of machines are drawn for each size and way.
-const DRAWS: usize = 80;
+const DRAWS: usize = 500;
 
 // Compares on all of them.
 pub(crate) fn compare_all(tally: &mut [u64]) {
@@ -67,27 +67,41 @@ fn draw(sizes: Sizes, way: usize, seed: &mut u64) -> Machines {
     let zeros = wrapping_add_usize(4, roll(seed, 4));
     draw_table(seed, sizes.old, zeros, &mut old_next, &mut old_out);
     draw_table(seed, sizes.new, zeros, &mut new_next, &mut new_out);
-    if way >= RENAMED {
-        let shift = roll(seed, sizes.old);
-        rename(
-            sizes,
-            shift,
-            &old_next,
-            &old_out,
-            seed,
-            &mut new_next,
-            &mut new_out,
-        );
-    }
-    if way == CHANGED {
-        change(sizes, seed, &mut new_next, &mut new_out);
-    }
+    relate(
+        sizes,
+        way,
+        &old_next,
+        &old_out,
+        seed,
+        &mut new_next,
+        &mut new_out,
+    );
     Machines {
         sizes,
         old_next,
         old_out,
         new_next,
         new_out,
+    }
+}
+
+// Makes the new machine from the old one where the way asks it.
+fn relate(
+    sizes: Sizes,
+    way: usize,
+    old_next: &[u8],
+    old_out: &[u8],
+    seed: &mut u64,
+    new_next: &mut [u8],
+    new_out: &mut [u8],
+) {
+    if way == APART {
+        return;
+    }
+    let shift = roll(seed, sizes.old);
+    rename(sizes, shift, old_next, old_out, seed, new_next, new_out);
+    if way == CHANGED {
+        change(sizes, seed, new_next, new_out);
     }
 }
 

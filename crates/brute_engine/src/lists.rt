@@ -162,18 +162,18 @@ fn place_end(j: Joined, ends: &[u8], sought: &mut [u8]) {
 
 // Tries every list of 1 to `most` steps on the pairs for which `steps` holds none, and keeps the first whose last step is sought.
 pub(crate) fn try_lists(j: Joined, sought: &[u8], most: usize, steps: &mut [u8], lists: &mut [u8]) {
-    for before in 0..most {
-        try_length(j, sought, before, steps, lists);
+    for last in 0..most {
+        try_length(j, sought, last, steps, lists);
     }
 }
 
-// Tries every list that has so many steps before its last one.
-fn try_length(j: Joined, sought: &[u8], before: usize, steps: &mut [u8], lists: &mut [u8]) {
+// Tries every list whose last step has this place.
+fn try_length(j: Joined, sought: &[u8], last: usize, steps: &mut [u8], lists: &mut [u8]) {
     let mut list = [0u8; MOST_STEPS];
     let mut ends = [0u8; MOST_STEPS * BOTH];
     place_starts(&mut ends);
-    run_on(j, &list, 0, before, &mut ends);
-    try_each(j, sought, before, &mut list, &mut ends, steps, lists);
+    run_on(j, &list, 0, last, &mut ends);
+    try_each(j, sought, last, &mut list, &mut ends, steps, lists);
 }
 
 // After no step each state is where it is.
@@ -187,48 +187,48 @@ fn place_starts(ends: &mut [u8]) {
 fn try_each(
     j: Joined,
     sought: &[u8],
-    before: usize,
+    last: usize,
     list: &mut [u8],
     ends: &mut [u8],
     steps: &mut [u8],
     lists: &mut [u8],
 ) {
     for _ in 0..MOST_LISTS {
-        let open = try_list(j, sought, before, list, ends, steps, lists);
-        let changed = count_up(list, before, j.vectors);
-        if open == 0 {
+        let without = try_list(j, sought, last, list, ends, steps, lists);
+        let changed = count_up(list, last, j.vectors);
+        if without == 0 {
             return;
         }
         if changed == NONE {
             return;
         }
-        run_on(j, list, changed, before, ends);
+        run_on(j, list, changed, last, ends);
     }
 }
 
-// Tries one list on every pair, and answers for how many it was still open.
+// Tries one list on every pair, and answers how many pairs had none.
 fn try_list(
     j: Joined,
     sought: &[u8],
-    before: usize,
+    last: usize,
     list: &[u8],
     ends: &[u8],
     steps: &mut [u8],
     lists: &mut [u8],
 ) -> usize {
-    let mut open = 0;
+    let mut without = 0;
     for p in 0..j.pairs {
-        let n = try_pair(j, sought, before, list, ends, p, steps, lists);
-        open = wrapping_add_usize(open, n);
+        let n = try_pair(j, sought, last, list, ends, p, steps, lists);
+        without = wrapping_add_usize(without, n);
     }
-    open
+    without
 }
 
-// Tries one list on one pair: 1 where it was open.
+// Tries one list on one pair: 1 where it had none.
 fn try_pair(
     j: Joined,
     sought: &[u8],
-    before: usize,
+    last: usize,
     list: &[u8],
     ends: &[u8],
     p: usize,
@@ -238,13 +238,14 @@ fn try_pair(
     if at(steps, p) != NONE {
         return 0;
     }
-    let row = row(before);
+    let row = row(last);
     let first = at(ends, row + at(&j.first, p));
     let second = at(ends, row + at(&j.second, p));
-    let vector = at(list, before);
+    let vector = at(list, last);
     if at(sought, vector * 64 + first * BOTH + second) == 1 {
-        put(steps, p, wrapping_add_usize(before, 1));
+        put(steps, p, wrapping_add_usize(last, 1));
         keep(list, p, lists);
+        return 1;
     }
     1
 }
