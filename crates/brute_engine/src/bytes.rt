@@ -38,7 +38,9 @@ pub(crate) fn fill(bytes: &mut [u8], value: usize) {
 }
 
 // 1 where a fact holds, else 0.
-pub(crate) fn mark(fact: bool) -> usize {
+pub(crate) fn mark(fact: bool) -> usize
+    ensures { λ r. ⌜ r < 2 ⌝ }
+{
     if fact {
         return 1;
     }

@@ -62,6 +62,7 @@ pub(crate) fn answer(m: Machines) -> Answers {
     let mut trace_steps = [0u8; PAIRS];
     let mut traces = [0u8; KEPT];
     find_traces(j, &mut trace_steps, &mut traces);
+    let round = quiet_round(j, &trace_steps);
     let mut alike = [0u8; PAIRS];
     place_marks(j, &trace_steps, true, &mut alike);
     let mut list_steps = [0u8; PAIRS];
@@ -91,7 +92,7 @@ pub(crate) fn answer(m: Machines) -> Answers {
         alike_count: count(&alike),
         alignable,
         alignable_count: count(&alignable),
-        round: quiet_round(j, &trace_steps),
+        round,
         apart,
         judged,
         judged_steps: built.steps,

@@ -327,10 +327,7 @@ fn compare_judged(m: Machines, known: Answers, list: &mut [u8], tally: &mut [u64
             compare_steps(m, known, n, refused, list, tally);
         }
         Verdict::Apart(pair, n) => {
-            let lowest = pair_at(m.sizes, known.apart);
-            expect(b"APART", known.apart < known.pairs, m, tally);
-            expect(b"OLD STATE OF APART", pair.old == lowest.old, m, tally);
-            expect(b"NEW STATE OF APART", pair.new == lowest.new, m, tally);
+            compare_apart(m, known, pair, tally);
             compare_steps(m, known, n, refused, list, tally);
         }
         Verdict::Refused(n) => {
@@ -343,6 +340,14 @@ fn compare_judged(m: Machines, known: Answers, list: &mut [u8], tally: &mut [u64
             );
         }
     }
+}
+
+// Apart, and the lowest pair that is not alignable.
+fn compare_apart(m: Machines, known: Answers, pair: Pair, tally: &mut [u64]) {
+    let lowest = pair_at(m.sizes, known.apart);
+    expect(b"APART", known.apart < known.pairs, m, tally);
+    expect(b"OLD STATE OF APART", pair.old == lowest.old, m, tally);
+    expect(b"NEW STATE OF APART", pair.new == lowest.new, m, tally);
 }
 
 // The steps and bytes of a verdict that was given.

@@ -84,11 +84,7 @@ fn raise(tally: &mut [u64], place: usize, n: u64) {
 pub(crate) fn count(known: Answers, tally: &mut [u64]) {
     add(tally, MACHINES, 1);
     add(tally, PAIRS, known.pairs as u64);
-    add(tally, ALIKE, known.alike_count as u64);
-    add(tally, ALIGNABLE, known.alignable_count as u64);
-    add_if(tally, NONE_ALIKE, known.alike_count == 0);
-    add_if(tally, ALL_ALIKE, known.alike_count == known.pairs);
-    raise(tally, LAST_ROUND, known.round as u64);
+    count_maps(known, tally);
     count_steps(
         &known.trace_steps,
         known.pairs,
@@ -98,6 +94,15 @@ pub(crate) fn count(known: Answers, tally: &mut [u64]) {
     );
     count_steps(&known.list_steps, known.pairs, LISTS, LONGEST_LIST, tally);
     count_verdict(known, tally);
+}
+
+// Counts the marked pairs.
+fn count_maps(known: Answers, tally: &mut [u64]) {
+    add(tally, ALIKE, known.alike_count as u64);
+    add_if(tally, NONE_ALIKE, known.alike_count == 0);
+    add_if(tally, ALL_ALIKE, known.alike_count == known.pairs);
+    raise(tally, LAST_ROUND, known.round as u64);
+    add(tally, ALIGNABLE, known.alignable_count as u64);
 }
 
 // Counts the lists that have a step, and keeps the longest.
