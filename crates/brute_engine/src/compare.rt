@@ -108,24 +108,21 @@ fn compare_alike(m: Machines, known: Answers, tally: &mut [u64]) {
         &mut mark,
     );
     expect(
-        b"MARKS OF ALIKE PAIRS",
-        has_bytes(&mark, known.pairs, &known.alike, 0),
+        b"COUNT OF ALIKE PAIRS OR ROUND",
+        is_alike_count(mapped, known.alike_count, known.round),
         m,
         tally,
     );
-    expect_zero(b"SCRATCH OF ALIKE PAIRS", &depth, &reach, m, tally);
-    match mapped {
-        MappedAlike::Marked { count, round } => {
-            expect(
-                b"COUNT OF ALIKE PAIRS",
-                count == known.alike_count,
-                m,
-                tally,
-            );
-            expect(b"ROUND", round == known.round, m, tally);
-        }
-        MappedAlike::Refused(_) => expect(b"MAP OF ALIKE PAIRS", false, m, tally),
-    }
+    compare_left(
+        b"MARKS OR SCRATCH OF ALIKE PAIRS",
+        &mark,
+        known.pairs,
+        &known.alike,
+        &depth,
+        &reach,
+        m,
+        tally,
+    );
 }
 
 // The map of alignable pairs.
@@ -148,20 +145,51 @@ fn compare_alignable(m: Machines, known: Answers, tally: &mut [u64]) {
         &mut mark,
     );
     expect(
-        b"MARKS OF ALIGNABLE PAIRS",
-        has_bytes(&mark, known.pairs, &known.alignable, 0),
+        b"COUNT OF ALIGNABLE PAIRS",
+        is_alignable_count(mapped, known.alignable_count),
         m,
         tally,
     );
-    expect_zero(b"SCRATCH OF ALIGNABLE PAIRS", &depth, &reach, m, tally);
+    compare_left(
+        b"MARKS OR SCRATCH OF ALIGNABLE PAIRS",
+        &mark,
+        known.pairs,
+        &known.alignable,
+        &depth,
+        &reach,
+        m,
+        tally,
+    );
+}
+
+// What a map leaves: the marks of the pairs, zeros behind them, and scratch all zero.
+fn compare_left(
+    words: &[u8],
+    mark: &[u8],
+    pairs: usize,
+    marks: &[u8],
+    depth: &[u16],
+    reach: &[u16],
+    m: Machines,
+    tally: &mut [u64],
+) {
+    expect(words, has_bytes(mark, pairs, marks, 0), m, tally);
+    expect_zero(words, depth, reach, m, tally);
+}
+
+// Whether a map of alike pairs has this count and round.
+fn is_alike_count(mapped: MappedAlike, expected: usize, expected_round: usize) -> bool {
     match mapped {
-        MappedAlignable::Marked(count) => expect(
-            b"COUNT OF ALIGNABLE PAIRS",
-            count == known.alignable_count,
-            m,
-            tally,
-        ),
-        MappedAlignable::Refused(_) => expect(b"MAP OF ALIGNABLE PAIRS", false, m, tally),
+        MappedAlike::Marked { count, round } => count == expected && round == expected_round,
+        MappedAlike::Refused(_) => false,
+    }
+}
+
+// Whether a map of alignable pairs has this count.
+fn is_alignable_count(mapped: MappedAlignable, expected: usize) -> bool {
+    match mapped {
+        MappedAlignable::Marked(count) => count == expected,
+        MappedAlignable::Refused(_) => false,
     }
 }
 
@@ -224,27 +252,35 @@ fn compare_lent(
     tally: &mut [u64],
 ) {
     let refused = refusal(steps, list.len());
-    match find(m, pair_at(m.sizes, p), trace, list, tally) {
-        Found::Steps(n) => {
-            expect(b"REFUSAL OF A TRACE OR LIST", refused == 0, m, tally);
-            expect(b"STEPS OF A TRACE OR LIST", n == steps, m, tally);
-            expect(
-                b"BYTES OF A TRACE OR LIST",
-                has_bytes(list, steps, lists, kept(p)),
-                m,
-                tally,
-            );
-        }
-        Found::Refused(n) => {
-            expect(b"REFUSAL OF A TRACE OR LIST", n == refused, m, tally);
-            expect(
-                b"BYTES OF A REFUSED TRACE OR LIST",
-                has_bytes(list, 0, lists, 0),
-                m,
-                tally,
-            );
-        }
+    let found = find(m, pair_at(m.sizes, p), trace, list, tally);
+    expect(
+        b"STEPS OF A TRACE OR LIST",
+        is_found(found, steps, refused),
+        m,
+        tally,
+    );
+    expect(
+        b"BYTES OF A TRACE OR LIST",
+        has_bytes(list, written(steps, refused), lists, kept(p)),
+        m,
+        tally,
+    );
+}
+
+// Whether an answer for a pair has these steps or this refusal.
+fn is_found(found: Found, steps: usize, refused: u8) -> bool {
+    match found {
+        Found::Steps(n) => refused == 0 && n == steps,
+        Found::Refused(n) => n == refused,
     }
+}
+
+// How many bytes are written: none where the call is refused.
+fn written(steps: usize, refused: u8) -> usize {
+    if refused == 0 {
+        return steps;
+    }
+    0
 }
 
 // The number by which a list is refused: there is none, or it does not fit; else 0.
@@ -315,58 +351,47 @@ fn compare_verdict(m: Machines, known: Answers, room: usize, tally: &mut [u64]) 
 // The verdict, in this slice.
 fn compare_judged(m: Machines, known: Answers, list: &mut [u8], tally: &mut [u64]) {
     let refused = refusal(known.judged_steps, list.len());
-    match judge(m, list, tally) {
-        Verdict::Same(n) => {
-            expect(b"SAME", known.apart == known.pairs, m, tally);
-            expect(
-                b"LIST THAT ALIGNS ALL PAIRS",
-                aligns(m, &known.alike, list, n),
-                m,
-                tally,
-            );
-            compare_steps(m, known, n, refused, list, tally);
-        }
-        Verdict::Apart(pair, n) => {
-            compare_apart(m, known, pair, tally);
-            compare_steps(m, known, n, refused, list, tally);
-        }
-        Verdict::Refused(n) => {
-            expect(b"REFUSAL OF A VERDICT", n == refused, m, tally);
-            expect(
-                b"BYTES OF A REFUSED VERDICT",
-                has_bytes(list, 0, list, 0),
-                m,
-                tally,
-            );
-        }
-    }
-}
-
-// Apart, and the lowest pair that is not alignable.
-fn compare_apart(m: Machines, known: Answers, pair: Pair, tally: &mut [u64]) {
+    let verdict = judge(m, list, tally);
+    let same = known.apart == known.pairs;
     let lowest = pair_at(m.sizes, known.apart);
-    expect(b"APART", known.apart < known.pairs, m, tally);
-    expect(b"OLD STATE OF APART", pair.old == lowest.old, m, tally);
-    expect(b"NEW STATE OF APART", pair.new == lowest.new, m, tally);
-}
-
-// The steps and bytes of a verdict that was given.
-fn compare_steps(
-    m: Machines,
-    known: Answers,
-    steps: usize,
-    refused: u8,
-    list: &[u8],
-    tally: &mut [u64],
-) {
-    expect(b"REFUSAL OF A VERDICT", refused == 0, m, tally);
-    expect(b"STEPS OF A VERDICT", steps == known.judged_steps, m, tally);
     expect(
-        b"BYTES OF A VERDICT",
-        has_bytes(list, known.judged_steps, &known.judged, 0),
+        b"VERDICT",
+        is_verdict(verdict, same, lowest, known.judged_steps, refused),
         m,
         tally,
     );
+    expect(
+        b"BYTES OF A VERDICT",
+        has_bytes(list, written(known.judged_steps, refused), &known.judged, 0),
+        m,
+        tally,
+    );
+    compare_end(m, known, refused, list, tally);
+}
+
+// The list of Same, fed to every pair, must end in alike pairs only.
+fn compare_end(m: Machines, known: Answers, refused: u8, list: &[u8], tally: &mut [u64]) {
+    if known.apart < known.pairs {
+        return;
+    }
+    if refused != 0 {
+        return;
+    }
+    let aligned = aligns(m, &known.alike, list, known.judged_steps);
+    expect(b"END OF THE LIST OF SAME", aligned, m, tally);
+}
+
+// Whether a verdict is Same or Apart at the lowest pair, with these steps, or has this refusal.
+fn is_verdict(verdict: Verdict, same: bool, lowest: Pair, steps: usize, refused: u8) -> bool {
+    match verdict {
+        Verdict::Same(n) => refused == 0 && same && n == steps,
+        Verdict::Apart(pair, n) => refused == 0
+            && !same
+            && pair.old == lowest.old
+            && pair.new == lowest.new
+            && n == steps,
+        Verdict::Refused(n) => n == refused,
+    }
 }
 
 // Asks for the verdict.

@@ -238,16 +238,20 @@ fn try_pair(
     if at(steps, p) != NONE {
         return 0;
     }
-    let row = row(last);
-    let first = at(ends, row + at(&j.first, p));
-    let second = at(ends, row + at(&j.second, p));
-    let vector = at(list, last);
-    if at(sought, vector * 64 + first * BOTH + second) == 1 {
+    if is_sought(j, sought, last, list, ends, p) {
         put(steps, p, wrapping_add_usize(last, 1));
         keep(list, p, lists);
         return 1;
     }
     1
+}
+
+// Whether the last step of a list is sought from where its steps before lead a pair.
+fn is_sought(j: Joined, sought: &[u8], last: usize, list: &[u8], ends: &[u8], p: usize) -> bool {
+    let row = row(last);
+    let first = at(ends, row + at(&j.first, p));
+    let second = at(ends, row + at(&j.second, p));
+    at(sought, at(list, last) * 64 + first * BOTH + second) == 1
 }
 
 // Where the states after so many steps stand.

@@ -138,8 +138,18 @@ fn count_verdict(known: Answers, tally: &mut [u64]) {
 }
 
 // Prints all counts, one line a kind.
-pub(crate) fn print(word: &[u8], tally: &[u64]) {
-    text(word);
+pub(crate) fn print(words: &[u8], tally: &[u64]) {
+    text(words);
+    print_maps(tally);
+    print_lists(tally);
+    print_verdicts(tally);
+    item(b"\n  COMPARISONS ", read(tally, COMPARED));
+    item(b", DISAGREEMENTS ", read(tally, DISAGREEMENTS));
+    text(b"\n");
+}
+
+// Prints the counts of pairs.
+fn print_maps(tally: &[u64]) {
     item(b"  PAIRS OF MACHINES ", read(tally, MACHINES));
     item(b", PAIRS OF STATES ", read(tally, PAIRS));
     item(b"\n  ALIKE ", read(tally, ALIKE));
@@ -147,10 +157,18 @@ pub(crate) fn print(word: &[u8], tally: &[u64]) {
     item(b", WITH ALL ", read(tally, ALL_ALIKE));
     item(b", LAST ROUND ", read(tally, LAST_ROUND));
     item(b"\n  ALIGNABLE ", read(tally, ALIGNABLE));
+}
+
+// Prints the counts of traces and lists.
+fn print_lists(tally: &[u64]) {
     item(b"\n  TRACES ", read(tally, TRACES));
     item(b", LONGEST ", read(tally, LONGEST_TRACE));
     item(b"\n  LISTS WITH A STEP ", read(tally, LISTS));
     item(b", LONGEST ", read(tally, LONGEST_LIST));
+}
+
+// Prints the counts of verdicts.
+fn print_verdicts(tally: &[u64]) {
     item(b"\n  SAME ", read(tally, SAME));
     item(b", IN ONE ROUND ", read(tally, ONE_ROUND));
     item(b", IN MORE ", read(tally, MORE_ROUNDS));
@@ -161,7 +179,4 @@ pub(crate) fn print(word: &[u8], tally: &[u64]) {
         b", WITH SOME PAIRS ALIGNABLE ",
         read(tally, PARTLY_ALIGNABLE),
     );
-    item(b"\n  COMPARISONS ", read(tally, COMPARED));
-    item(b", DISAGREEMENTS ", read(tally, DISAGREEMENTS));
-    text(b"\n");
 }
