@@ -135,6 +135,7 @@ pub(crate) fn seek_difference(j: Joined) -> [u8; SOUGHT] {
     sought
 }
 
+// Marks each vector and two states whose outputs differ.
 fn place_difference(j: Joined, sought: &mut [u8]) {
     for i in 0..SOUGHT {
         let vector = i / 64;
@@ -151,6 +152,7 @@ pub(crate) fn seek_end(j: Joined, ends: &[u8]) -> [u8; SOUGHT] {
     sought
 }
 
+// Marks each vector and two states that lead to a marked pair.
 fn place_end(j: Joined, ends: &[u8], sought: &mut [u8]) {
     for i in 0..SOUGHT {
         let vector = i / 64;

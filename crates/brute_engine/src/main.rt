@@ -12,6 +12,7 @@ mod tally;
 
 use tally::PLACES;
 
+// Compares on both kinds of machines, and prints what was compared.
 fn main() {
     let mut tally = [0u64; PLACES];
     small::compare_all(&mut tally);

@@ -1,6 +1,7 @@
 // Printing words, numbers and the tables of two machines.
 use crate::tables::Machines;
 
+// Words.
 pub(crate) fn text(words: &[u8]) {
     io::write_all(1, words);
 }

@@ -112,6 +112,7 @@ fn count_steps(steps: &[u8], pairs: usize, count: usize, longest: usize, tally: 
     }
 }
 
+// Counts a list that has a step.
 fn count_list(steps: usize, count: usize, longest: usize, tally: &mut [u64]) {
     if steps == 0 {
         return;
