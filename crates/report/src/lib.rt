@@ -1,5 +1,5 @@
-// The text that the program `align` prints, as bytes in a lent slice. What is printed is a function of numbers, lists and tables, so
-// that no wrong line can be printed; who computes the numbers stands above. Each call hands back how many bytes the text has.
+// The text that the program `align` prints, as bytes in a lent slice. What is printed is a function of the numbers, lists
+// and tables that it is given; who computes these stands above. Each call hands back how many bytes the text has.
 mod lines;
 mod pieces;
 mod steps;
