@@ -1,18 +1,16 @@
 -- Demand 3, from the promise of `compare`; from the verdict's own promise over tables that hold the two designs; and so from the
 -- promises of the verdict and of the tabulating call, one call for both designs or one for each.
 use Prim.Native.Nat.{ℕ, _<_, min}
-use mathlib.Core.Path.{_≡_, refl, subst}
+use mathlib.Core.Path.{_≡_, refl}
 use mathlib.Core.List.{List}
 use native.Mathlib.Omega.{arith}
 use lib.ListN.{length}
 use Rattle.netlist.specs.declared.Design.{Design}
 use Rattle.netlist.specs.Meaning.Faults.{Accepted}
 use Rattle.netlist.proofs.Numbers.{fault-bounds}
-use Rattle.netlist.specs.Meaning.Nets.{statesOf, vectorsOf}
 use Rattle.simulator.specs.declared.Tabulated.{Tabulated}
 use Rattle.simulator.specs.declared.TabulatedBoth.{TabulatedBoth}
 use Rattle.simulator.specs.Meaning.Tables.{HoldsDesign, TableFault, InterfaceFault, BothFault, Tabulates, TabulatesBoth}
-use Rattle.machine.specs.declared.Sizes.{Sizes}
 use Rattle.machine.specs.declared.Pair.{Pair}
 use Rattle.machine.specs.Meaning.Tables.{bothTables, In}
 use Rattle.machine.proofs.Transfer.{written-there}
@@ -57,13 +55,6 @@ demand-3 a b n s t e (Verdict.Same m) h x y c u k = same-right a b (e .written) 
 demand-3 a b n s t e (Verdict.Apart p m) h x y c u k = apart-right a b (e .written) p m (h .keeps .1 .decided)
 demand-3 a b n s t e (Verdict.Refused m) h x y c u k = absurd (no-fault a b n s x y c u k m (h .keeps .0 .applies))
 
--- the sizes that tabulating hands back are the designs'
-judged-sizes : (a b : Design) {s0 s1 v : ℕ} {next0 out0 next1 out1 : List ℕ} {s : Lent} {e : Left} {r : Verdict} → s0 ≡ statesOf a → s1 ≡ statesOf b → v ≡ vectorsOf a
-    → Judges (bothTables (record { old = s0; new = s1; vectors = v }) next0 out0 next1 out1) s e r → Judges (bothTables (sizesOf a b) next0 out0 next1 out1) s e r
-judged-sizes a b {s0} {s1} {v} {next0} {out0} {next1} {out1} {s} {e} {r} p q u j =
-    let z : _≡_ {A = Sizes} (record { old = s0; new = s1; vectors = v }) (sizesOf a b) = cc in
-    subst (λ (x : Sizes). Judges (bothTables x next0 out0 next1 out1) s e r) z j
-
 -- demand 3 of `judge`, over tables of the two designs, however they were written
 pub demand-3-tables : (a b : Design) (next0 out0 next1 out1 : List ℕ) (s : Lent) (e : Left) (r : Verdict)
     → HoldsDesign a next0 out0 → HoldsDesign b next1 out1 → Judges (bothTables (sizesOf a b) next0 out0 next1 out1) s e r
@@ -81,23 +72,26 @@ demand-3-tables a b next0 out0 next1 out1 s e (Verdict.Refused m) h0 h1 j x y c 
     none m (JudgeFault.list (short l w h)) = omega (arith, h, k .list l (written-there (tables-agree a b next0 out0 next1 out1 (c .inputs) h0 h1) l w))
 
 -- "For demand 3 the tables at the verdict's entry are those that the tabulating call writes for the two designs, whether one call for
--- both or one for each; each S given to the verdict is 2 to that design's L, and V is 2 to the I"
-pub demand-3-both : (a b : Design) (n : TablesLent) (s0 s1 v : ℕ) (next0 out0 next1 out1 : List ℕ) (s : Lent) (e : Left) (r : Verdict)
-    → TabulatesBoth a b (n .old-next) (n .old-out) (n .new-next) (n .new-out) (TabulatedBoth.Both s0 s1 v) next0 out0 next1 out1
-    → Judges (bothTables (record { old = s0; new = s1; vectors = v }) next0 out0 next1 out1) s e r → Demand3 a b n s e r
-demand-3-both a b n s0 s1 v next0 out0 next1 out1 s e r w j x y c u k =
-    let t = w .keeps .1 in
-    demand-3-tables a b next0 out0 next1 out1 s e r (t .old) (t .new) (judged-sizes a b (t .old-states) (t .new-states) (t .vectors) j) x y c
+-- both or one for each; each S given to the verdict is 2 to that design's L, and V is 2 to the I". The tabulating call cannot refuse.
+pub demand-3-both : (a b : Design) (n : TablesLent) (t : TabulatedBoth) (next0 out0 next1 out1 : List ℕ) (s : Lent) (e : Left) (r : Verdict)
+    → TabulatesBoth a b (n .old-next) (n .old-out) (n .new-next) (n .new-out) t next0 out0 next1 out1
+    → Judges (bothTables (sizesOf a b) next0 out0 next1 out1) s e r → Demand3 a b n s e r
+demand-3-both a b n (TabulatedBoth.Both s0 s1 v) next0 out0 next1 out1 s e r w j x y c u k =
+    demand-3-tables a b next0 out0 next1 out1 s e r (w .keeps .1 .old) (w .keeps .1 .new) j x y c
     (record { old-next = omega (arith, u .old-next, w .size-next0); old-out = omega (arith, u .old-out, w .size-out0); new-next = omega (arith, u .new-next, w .size-next1); new-out = omega (arith, u .new-out, w .size-out1) }) k
+demand-3-both a b n (TabulatedBoth.Refused m) next0 out0 next1 out1 s e r w j x y c u k =
+    absurd (no-fault a b n s x y c u k m (CompareFault.tabulating (w .keeps .0 .applies)))
 
-pub demand-3-each : (a b : Design) (n : TablesLent) (s0 s1 v w : ℕ) (next0 out0 next1 out1 : List ℕ) (s : Lent) (e : Left) (r : Verdict)
-    → Tabulates a (n .old-next) (n .old-out) (Tabulated.Table s0 v) next0 out0 → Tabulates b (n .new-next) (n .new-out) (Tabulated.Table s1 w) next1 out1
-    → Judges (bothTables (record { old = s0; new = s1; vectors = v }) next0 out0 next1 out1) s e r → Demand3 a b n s e r
-demand-3-each a b n s0 s1 v w next0 out0 next1 out1 s e r p q j x y c u k =
-    let f = p .keeps .1 in
-    let g = q .keeps .1 in
-    demand-3-tables a b next0 out0 next1 out1 s e r (f .holds) (g .holds) (judged-sizes a b (f .states) (g .states) (f .vectors) j) x y c
+pub demand-3-each : (a b : Design) (n : TablesLent) (t0 t1 : Tabulated) (next0 out0 next1 out1 : List ℕ) (s : Lent) (e : Left) (r : Verdict)
+    → Tabulates a (n .old-next) (n .old-out) t0 next0 out0 → Tabulates b (n .new-next) (n .new-out) t1 next1 out1
+    → Judges (bothTables (sizesOf a b) next0 out0 next1 out1) s e r → Demand3 a b n s e r
+demand-3-each a b n (Tabulated.Table s0 v) (Tabulated.Table s1 w) next0 out0 next1 out1 s e r p q j x y c u k =
+    demand-3-tables a b next0 out0 next1 out1 s e r (p .keeps .1 .holds) (q .keeps .1 .holds) j x y c
     (record { old-next = omega (arith, u .old-next, p .size-next); old-out = omega (arith, u .old-out, p .size-out); new-next = omega (arith, u .new-next, q .size-next); new-out = omega (arith, u .new-out, q .size-out) }) k
+demand-3-each a b n (Tabulated.Refused m) t1 next0 out0 next1 out1 s e r p q j x y c u k =
+    absurd (no-fault a b n s x y c u k m (CompareFault.tabulating (BothFault.old (p .keeps .0 .applies))))
+demand-3-each a b n (Tabulated.Table s0 v) (Tabulated.Refused m) next0 out0 next1 out1 s e r p q j x y c u k =
+    absurd (no-fault a b n s x y c u k m (CompareFault.tabulating (BothFault.new (q .keeps .0 .applies))))
 
 -- Apart exactly when some pair of power-up states is driven to an alike pair by no list
 pub undriven-apart : (a b : Design) (l : List ℕ) (r : Verdict) → Right a b l r → (p : Pair) → In (sizesOf a b) p → (Driven a b p → ⊥) → (q : Pair) × (n : ℕ) × (r ≡ Verdict.Apart q n)
@@ -106,6 +100,11 @@ undriven-apart a b l _ (R.apart q n i g lower) p j d = (q, n, refl)
 
 pub apart-undriven : (a b : Design) (l : List ℕ) (p : Pair) (n : ℕ) → Right a b l (Verdict.Apart p n) → In (sizesOf a b) p × (Driven a b p → ⊥)
 apart-undriven a b l p n (R.apart _ _ i d lower) = (i, d)
+
+-- "otherwise Same"
+pub driven-same : (a b : Design) (l : List ℕ) (r : Verdict) → Right a b l r → ((p : Pair) → In (sizesOf a b) p → Driven a b p) → (n : ℕ) × (r ≡ Verdict.Same n)
+driven-same a b l _ (R.same n h all) d = (n, refl)
+driven-same a b l _ (R.apart q n i g lower) d = absurd (g (d q i))
 
 -- no condition has number 0, so a refusal by 0 keeps no promise
 fault-positive : {a b : Design} {n : TablesLent} {s : Lent} {m : ℕ} → CompareFault a b n s m → 0 < m

@@ -1,3 +1,4 @@
 pub mod Agreement
 pub mod Comparison
 pub mod Demand
+pub mod Determined

@@ -16,6 +16,7 @@ use Rattle.machine.specs.declared.Pair.{Pair}
 use Rattle.machine.specs.declared.Sizes.{Sizes}
 use Rattle.machine.specs.Meaning.Tables.{Tables, pairs, Flag, holds, fails, AlikeIn, AlignableIn, TraceIn, ListIn}
 use Rattle.machine.proofs.Order.{first-unique}
+use Rattle.machine.proofs.Lent.{same-left}
 use Rattle.machine.proofs.Rounds.{round-unique}
 use Rattle.machine.specs.Working.Pairs.{pairAt}
 use Rattle.machine.proofs.Numbers.{pairAt-in, at-pair}
@@ -47,13 +48,6 @@ module _ {t : Tables} {s : Lent} {p : Pair} {None : Type 0} {Sought : List ℕ �
 
   pub found-not-zero : {e : Left} → Finds t s p None Sought e (Found.Refused 0) → ⊥
   found-not-zero m = omega (arith, pair-some (m .keeps .0 .applies))
-
--- scratch is zero, so what is left is fixed by what is written
-same-left : (s : Lent) (e f : Left) → Tidy s e → Tidy s f → e .written ≡ f .written → e ≡ f
-same-left s e f x y w =
-    let d : e .depth ≡ f .depth = zero-unique (e .depth) (f .depth) (x .depth .size ∙ sym (y .depth .size)) (x .depth .zero) (y .depth .zero) in
-    let r : e .reach ≡ f .reach = zero-unique (e .reach) (f .reach) (x .reach .size ∙ sym (y .reach .size)) (x .reach .zero) (y .reach .zero) in
-    λ j. record { depth = d j; reach = r j; written = w j }
 
 flag-unique : {P : Type 0} {x y : ℕ} → Flag P x → Flag P y → x ≡ y
 flag-unique (holds e p) (holds f q) = e ∙ sym f

@@ -1,4 +1,5 @@
 pub mod Order
+pub mod Lent
 pub mod Lists
 pub mod Maps
 pub mod Greedy

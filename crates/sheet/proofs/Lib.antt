@@ -4,3 +4,4 @@ pub mod Short
 pub mod Models
 pub mod Carried
 pub mod Sheet
+pub mod Readings

@@ -1,2 +1,3 @@
 -- What the bench expects of the definitions: nothing here is assumed, and all of it is proved.
 pub mod Sheet
+pub mod Readings

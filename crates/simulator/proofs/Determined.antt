@@ -57,16 +57,16 @@ entry-unique d f a b e p q x y = ext-getD 0 a b e (λ k h. go k (decLt k (sizeOf
     go k (no h) = x k (omega arith) ∙ sym (y k (omega arith))
 
 -- the slices of a design
-abbrev Slices : Type 0
+abbrev pub Slices : Type 0
 Slices = List ℕ × List ℕ
 
 module _ (l k : Slices) (e : length (l .0) ≡ length (k .0)) (f : length (l .1) ≡ length (k .1)) where
-  holds-unique : (d : Design) → HoldsDesign d (l .0) (l .1) → HoldsDesign d (k .0) (k .1) → l ≡ k
+  pub holds-unique : (d : Design) → HoldsDesign d (l .0) (l .1) → HoldsDesign d (k .0) (k .1) → l ≡ k
   holds-unique d p q =
       ap₂ (λ (x y : List ℕ). (x, y)) (entry-unique d (nextState d) (l .0) (k .0) e (p .next-entry) (q .next-entry) (p .beyond-next) (q .beyond-next))
       (entry-unique d (outputs d) (l .1) (k .1) f (p .out-entry) (q .out-entry) (p .beyond-out) (q .beyond-out))
 
-  cleared-unique : ZeroTables (l .0) (l .1) → ZeroTables (k .0) (k .1) → l ≡ k
+  pub cleared-unique : ZeroTables (l .0) (l .1) → ZeroTables (k .0) (k .1) → l ≡ k
   cleared-unique p q = ap₂ (λ (x y : List ℕ). (x, y)) (zero-unique (l .0) (k .0) e (p .zero-next) (q .zero-next)) (zero-unique (l .1) (k .1) f (p .zero-out) (q .zero-out))
 
 tabulated : Reply TableSizes → Tabulated

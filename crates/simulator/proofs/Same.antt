@@ -27,7 +27,7 @@ module _ (d c : Design) (w : SameDesign d c) where
   table-fault n m k (TableFault.next l) = TableFault.next (omega (arith, same-size))
   table-fault n m k (TableFault.out l) = TableFault.out (omega (arith, same-size))
 
-  same-holds : (next out : List ℕ) → HoldsDesign d next out → HoldsDesign c next out
+  pub same-holds : (next out : List ℕ) → HoldsDesign d next out → HoldsDesign c next out
   same-holds next out h = record {
     next-entry = λ s v p q. rw (← same-vectors d c w) (h .next-entry s v (rw (same-states d c w) p) (rw (same-vectors d c w) q) ∙ same-next d c w s v);
     out-entry = λ s v p q. rw (← same-vectors d c w) (h .out-entry s v (rw (same-states d c w) p) (rw (same-vectors d c w) q) ∙ same-outputs d c w s v);
@@ -49,7 +49,7 @@ same-tabulate d c w n m r next out p = record {
   size-out = p .size-out;
 }
 
-both-fault : (a b c e : Design) → SameDesign a c → SameDesign b e → (n0 m0 n1 m1 k : ℕ) → BothFault a b n0 m0 n1 m1 k → BothFault c e n0 m0 n1 m1 k
+pub both-fault : (a b c e : Design) → SameDesign a c → SameDesign b e → (n0 m0 n1 m1 k : ℕ) → BothFault a b n0 m0 n1 m1 k → BothFault c e n0 m0 n1 m1 k
 both-fault a b c e p q n0 m0 n1 m1 k (BothFault.old f) = BothFault.old (table-fault a c p n0 m0 k f)
 both-fault a b c e p q n0 m0 n1 m1 k (BothFault.new f) = BothFault.new (table-fault b e q n1 m1 k f)
 both-fault a b c e p q n0 m0 n1 m1 k (BothFault.interface (InterfaceFault.other-inputs f)) =

@@ -28,7 +28,7 @@ use Rattle.verdict.specs.Meaning.Decision.{Decision, same, apart, verdic
 use Rattle.verdict.specs.Meaning.Promise.{JudgeFault, call, list, Judges}
 
 -- an answer is known by its reply
-reply-one : (q r : Verdict) → verdictReply q ≡ verdictReply r → q ≡ r
+pub reply-one : (q r : Verdict) → verdictReply q ≡ verdictReply r → q ≡ r
 reply-one (Verdict.Same n) (Verdict.Same k) e = cc
 reply-one (Verdict.Same n) (Verdict.Apart w k) e = cc
 reply-one (Verdict.Same n) (Verdict.Refused k) e = cc

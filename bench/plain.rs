@@ -1,0 +1,213 @@
+// The same decision in plain Rust, without proofs and without refusals: what `bench/run` compares `align` with.
+// It reads two accepted images back to back and prints what `align` prints, by the same searches: a map of one number a pair, a round
+// for each length of list, one sweep over the cells in order for each clock.
+use std::io::{self, Read, Write};
+
+struct Design {
+    inputs: usize,
+    latches: usize,
+    outputs: usize,
+    cells: Vec<[usize; 3]>,
+    data: Vec<usize>,
+    shown: Vec<usize>,
+}
+
+struct Bits<'a> {
+    bytes: &'a [u8],
+    at: usize,
+}
+
+impl Bits<'_> {
+    fn take(&mut self, width: usize) -> usize {
+        (0..width).fold(0, |n, _| {
+            let bit = self.bytes[self.at / 8] >> (7 - self.at % 8) & 1;
+            self.at += 1;
+            n * 2 + bit as usize
+        })
+    }
+}
+
+// The design at the front of the bytes, and how many bytes it takes.
+fn read(bytes: &[u8]) -> (Design, usize) {
+    let mut bits = Bits { bytes, at: 4 };
+    let (inputs, latches, outputs, count) = (bits.take(4), bits.take(4), bits.take(4), bits.take(9));
+    let cells = (0..count).map(|_| [bits.take(3), bits.take(9), bits.take(9)]).collect();
+    let data = (0..latches).map(|_| bits.take(9)).collect();
+    let shown = (0..outputs).map(|_| bits.take(9)).collect();
+    let design = Design { inputs, latches, outputs, cells, data, shown };
+    (design, (bits.at + 7) / 8)
+}
+
+// An order in which every cell stands behind those that it reads.
+fn order(d: &Design) -> Vec<usize> {
+    let base = 2 + d.inputs + d.latches;
+    let mut placed = vec![false; d.cells.len()];
+    let mut order = Vec::new();
+    while order.len() < d.cells.len() {
+        let ready = |net: usize| net < base || placed[net - base];
+        let next = (0..d.cells.len()).find(|&i| !placed[i] && ready(d.cells[i][1]) && ready(d.cells[i][2]));
+        let next = next.expect("a loop of cells");
+        placed[next] = true;
+        order.push(next);
+    }
+    order
+}
+
+fn gate(kind: usize, a: u8, b: u8) -> u8 {
+    match kind {
+        0 => a,
+        1 => 1 - a,
+        2 => a & b,
+        3 => a | b,
+        4 => a ^ b,
+        5 => 1 - (a & b),
+        6 => 1 - (a | b),
+        _ => 1 - (a ^ b),
+    }
+}
+
+// Next states and outputs, entry s * V + v.
+fn tabulate(d: &Design) -> (Vec<u8>, Vec<u8>) {
+    let base = 2 + d.inputs + d.latches;
+    let order = order(d);
+    let mut nets = vec![0u8; base + d.cells.len()];
+    let (mut next, mut out) = (Vec::new(), Vec::new());
+    for s in 0..1usize << d.latches {
+        for v in 0..1usize << d.inputs {
+            nets[1] = 1;
+            for k in 0..d.inputs {
+                nets[2 + k] = (v >> (d.inputs - 1 - k) & 1) as u8;
+            }
+            for k in 0..d.latches {
+                nets[2 + d.inputs + k] = (s >> (d.latches - 1 - k) & 1) as u8;
+            }
+            for &i in &order {
+                let [kind, a, b] = d.cells[i];
+                nets[base + i] = gate(kind, nets[a], nets[b]);
+            }
+            next.push(d.data.iter().fold(0, |n, &net| n * 2 + nets[net]));
+            out.push(d.shown.iter().fold(0, |n, &net| n * 2 + nets[net]));
+        }
+    }
+    (next, out)
+}
+
+struct Pairs {
+    next: [Vec<u8>; 2],
+    out: [Vec<u8>; 2],
+    states: [usize; 2],
+    vectors: usize,
+}
+
+impl Pairs {
+    fn step(&self, s0: usize, s1: usize, v: usize) -> (usize, usize) {
+        (self.next[0][s0 * self.vectors + v] as usize, self.next[1][s1 * self.vectors + v] as usize)
+    }
+
+    fn differs(&self, s0: usize, s1: usize, v: usize) -> bool {
+        self.out[0][s0 * self.vectors + v] != self.out[1][s1 * self.vectors + v]
+    }
+
+    // From a map of ones, one more a round for each step of the shortest list to them.
+    fn search(&self, map: &mut [u16]) {
+        let mut k = 1;
+        loop {
+            let mut changed = false;
+            for s0 in 0..self.states[0] {
+                for s1 in 0..self.states[1] {
+                    let i = s0 * self.states[1] + s1;
+                    if map[i] != 0 {
+                        continue;
+                    }
+                    for v in 0..self.vectors {
+                        let (t0, t1) = self.step(s0, s1, v);
+                        if map[t0 * self.states[1] + t1] == k {
+                            map[i] = k + 1;
+                            changed = true;
+                            break;
+                        }
+                    }
+                }
+            }
+            if !changed {
+                return;
+            }
+            k += 1;
+        }
+    }
+
+    // The list from a pair down the map, and the pair at its end.
+    fn descend(&self, map: &[u16], mut s0: usize, mut s1: usize) -> (Vec<usize>, usize, usize) {
+        let mut list = Vec::new();
+        while map[s0 * self.states[1] + s1] > 1 {
+            let here = map[s0 * self.states[1] + s1];
+            let down = |&v: &usize| {
+                let (t0, t1) = self.step(s0, s1, v);
+                map[t0 * self.states[1] + t1] + 1 == here
+            };
+            let v = (0..self.vectors).find(down).expect("a map of shortest lists");
+            list.push(v);
+            (s0, s1) = self.step(s0, s1, v);
+        }
+        (list, s0, s1)
+    }
+}
+
+fn main() {
+    let mut input = Vec::new();
+    io::stdin().read_to_end(&mut input).unwrap();
+    let (old, taken) = read(&input);
+    let (new, _) = read(&input[taken..]);
+    let (next0, out0) = tabulate(&old);
+    let (next1, out1) = tabulate(&new);
+    let p = Pairs { next: [next0, next1], out: [out0, out1], states: [1 << old.latches, 1 << new.latches], vectors: 1 << old.inputs };
+    let all = p.states[0] * p.states[1];
+    let mut depth = vec![0u16; all];
+    for i in 0..all {
+        let (s0, s1) = (i / p.states[1], i % p.states[1]);
+        depth[i] = (0..p.vectors).any(|v| p.differs(s0, s1, v)) as u16;
+    }
+    p.search(&mut depth);
+    let mut reach: Vec<u16> = depth.iter().map(|&d| (d == 0) as u16).collect();
+    p.search(&mut reach);
+    let mut text = String::new();
+    text += &format!("INPUTS {} OUTPUTS {} LATCHES {} {}\n", old.inputs, old.outputs, old.latches, new.latches);
+    text += &format!("ALIKE {} OF {}\n", depth.iter().filter(|&&d| d == 0).count(), all);
+    text += &format!("ALIGNABLE {} OF {}\n", reach.iter().filter(|&&d| d != 0).count(), all);
+    match reach.iter().position(|&d| d == 0) {
+        Some(i) => {
+            let (mut s0, mut s1) = (i / p.states[1], i % p.states[1]);
+            let (mut list, t0, t1) = p.descend(&depth, s0, s1);
+            list.push((0..p.vectors).find(|&v| p.differs(t0, t1, v)).unwrap());
+            text += &format!("APART {} {} {}\n", s0, s1, list.len());
+            for v in list {
+                text += &format!("{} {} {}\n", v, p.out[0][s0 * p.vectors + v], p.out[1][s1 * p.vectors + v]);
+                (s0, s1) = p.step(s0, s1, v);
+            }
+        }
+        None => {
+            let mut may = [vec![true; p.states[0]], vec![true; p.states[1]]];
+            let mut list = Vec::new();
+            while let Some(i) = (0..all).find(|&i| may[0][i / p.states[1]] && may[1][i % p.states[1]] && depth[i] != 0) {
+                let (part, _, _) = p.descend(&reach, i / p.states[1], i % p.states[1]);
+                for &v in &part {
+                    for d in 0..2 {
+                        let mut image = vec![false; p.states[d]];
+                        for s in 0..p.states[d] {
+                            if may[d][s] {
+                                image[p.next[d][s * p.vectors + v] as usize] = true;
+                            }
+                        }
+                        may[d] = image;
+                    }
+                }
+                list.extend(part);
+            }
+            text += &format!("SAME {}\n", list.len());
+            for v in list {
+                text += &format!("{}\n", v);
+            }
+        }
+    }
+    io::stdout().write_all(text.as_bytes()).unwrap();
+}
