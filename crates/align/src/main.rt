@@ -1,7 +1,7 @@
 // Reads two netlist images back to back, and prints whether the second design can replace the first whatever state either wakes in.
 use netlist::Image;
 
-// Bytes of the longest text: what stands in front of a list, and a line for each of its 32,768 steps.
+// Room for any text: what stands in front of a list, and a line for each of its 32,768 steps.
 const TEXT: usize = 400 + 12 * 32768;
 
 fn main() {

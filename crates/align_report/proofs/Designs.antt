@@ -39,13 +39,13 @@ module _ {a b : Design} {n : TablesLent} {s : Lent} {t : TablesLeft} {e : Left} 
   prints-refused (Verdict.Same m) w (inr g) h i q = absurd (omega arith)
   prints-refused (Verdict.Apart p m) w g (inl h) i q = absurd (omega arith)
   prints-refused (Verdict.Apart p m) w g (inr h) i q = absurd (omega arith)
-  prints-refused (Verdict.Refused k) w g h i q = record { answers = AnswersDesigns.refused k (w .keeps .0) (w .keeps .1 .list) (rw (← i) (q .is)); counts = q .counts }
+  prints-refused (Verdict.Refused k) w g h i q = record { answers = AnswersDesigns.refused k (w .keeps .0) (w .keeps .1 .list) (rw (← i) (q .is)); counts = q .counts; kept = w .tidy .written }
 
   pub prints-same : {j : Judged} {m : ℕ} {f : Facts} → ComparesCounting a b n s t e j → j .verdict ≡ Verdict.Same m → FactsOf a b f
       → Printed (sameText f (take m (e .written))) text′ r → ReportsDesigns a b n s (e .written) text′ r
   prints-same c is f q =
       let w = found-same c is in
-      record { answers = AnswersDesigns.found-same (w .keeps .0) _ f _ (w .keeps .1 .decided) (q .is); counts = q .counts }
+      record { answers = AnswersDesigns.found-same (w .keeps .0) _ f _ (w .keeps .1 .decided) (q .is); counts = q .counts; kept = w .tidy .written }
 
 -- tables print what the designs show
 module _ {a b : Design} {n : TablesLent} {s : Lent} {next0 out0 next1 out1 : List ℕ} {e : Left} {j : Judged} {p : Pair} {m : ℕ}
@@ -74,4 +74,5 @@ module _ {a b : Design} {n : TablesLent} {s : Lent} {next0 out0 next1 out1 : Lis
       record {
         answers = AnswersDesigns.found-apart (w .keeps .0) f facts p m (w .keeps .1 .decided) (x ∙ apart-there f (take m (e .written)) (k .lowest .inside) (k .trace .has .allowed));
         counts = q .counts;
+        kept = w .tidy .written;
       }

@@ -20,7 +20,7 @@ use Rattle.report.specs.declared.Facts.{Facts}
 use Rattle.report.specs.declared.Side.{Side}
 use Rattle.report.specs.declared.Side.the-variants.{Old, New, Both}
 use Rattle.report.specs.Meaning.Text.{refusalText, sameText, apartText}
-use Rattle.align_report.specs.Meaning.Report.{OldRefused, OldAccepted, FactsOf, AnswersDesigns, Answers}
+use Rattle.align_report.specs.Meaning.Report.{OldRefused, OldAccepted, FactsOf, AnswersDesigns, Answers, Reports, ownTables, ownSlices, Prints}
 
 facts-unique : (a b : Design) (f g : Facts) → FactsOf a b f → FactsOf a b g → f ≡ g
 facts-unique a b f g x y =
@@ -78,7 +78,7 @@ module _ (l k : List ℕ) (long : length l ≡ length k) where
         let w = same-list (apart o i) (apart r m) c d in
         (cc, w)
 
-  -- so no two texts answer one input, whatever is written beside them
+  -- so no two texts answer one input, nor two list slices of one length
   pub answers-unique : (b : List ℕ) (n : TablesLent) (s : Lent) {t u : List ℕ} → Answers b n s l t → Answers b n s k u → (t ≡ u) × (l ≡ k)
   answers-unique b n s (Answers.old-refused i x z p) (Answers.old-refused j y w q) = (same-refusal Old (old-number b x y) p q, zero-unique l k long z w)
   answers-unique b n s (Answers.old-refused i x z p) (Answers.new-refused j a y w q) = absurd (not-both b x a)
@@ -89,3 +89,8 @@ module _ (l k : List ℕ) (long : length l ≡ length k) where
   answers-unique b n s (Answers.new-refused i a x z p) (Answers.designs o y d) = absurd (y i (x .applies))
   answers-unique b n s (Answers.designs a x c) (Answers.new-refused j o y w q) = absurd (x j (y .applies))
   answers-unique b n s (Answers.designs a x c) (Answers.designs o y d) = designs-unique _ _ n s c d
+
+-- the program prints one text of an input
+pub prints-unique : (b t u : List ℕ) (r q : ℕ) → Prints b t r → Prints b u q → take r t ≡ take q u
+prints-unique b t u r q x y =
+    answers-unique (x .list) (y .list) (x .reports .kept ∙ sym (y .reports .kept)) b ownTables (ownSlices 32768) (x .reports .answers) (y .reports .answers) .0

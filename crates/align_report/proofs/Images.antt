@@ -40,28 +40,28 @@ old-read {b} {m} {f} w d e =
 
 module _ {b : List ℕ} {n : TablesLent} {s : Lent} {list′ text′ : List ℕ} {r : ℕ} where
   pub old-unmeasured : {m : Length} {k q : ℕ} → Measures b m → m ≡ Length.Refused k → q ≡ numberOf (lengthReply m)
-      → Zero list′ → Printed (refusalText Old q) text′ r → Reports b n s list′ text′ r
-  old-unmeasured {k = k} w e i z p =
+      → Zero list′ → length list′ ≡ s .written → Printed (refusalText Old q) text′ r → Reports b n s list′ text′ r
+  old-unmeasured {k = k} w e i z l p =
       let x = rw e at w in
       let j : _ ≡ k = rw e at i in
-      record { answers = Answers.old-refused k (OldRefused.header (x .keeps .0)) z (rw (← j) (p .is)); counts = p .counts }
+      record { answers = Answers.old-refused k (OldRefused.header (x .keeps .0)) z (rw (← j) (p .is)); counts = p .counts; kept = l }
 
   pub old-unread : {m k q : ℕ} {f : Reading} → Measures b (Length.Bytes m) → ReadsImage (take m b) f → f .answer ≡ Answer.Refused k → q ≡ numberOf (readReply (f .answer) emptyDesign)
-      → Zero list′ → Printed (refusalText Old q) text′ r → Reports b n s list′ text′ r
-  old-unread {m} {k} {q} {f} w d e i z p =
+      → Zero list′ → length list′ ≡ s .written → Printed (refusalText Old q) text′ r → Reports b n s list′ text′ r
+  old-unread {m} {k} {q} {f} w d e i z l p =
       let x = rw e at (d .keeps) in
       let y = subst (λ (j : ℕ). Lowest (ImageFault (take j b)) k) (w .keeps .1) (x .0) in
       let j : q ≡ k = rw e at i in
-      record { answers = Answers.old-refused k (OldRefused.image (w .keeps .0) y) z (rw (← j) (p .is)); counts = p .counts }
+      record { answers = Answers.old-refused k (OldRefused.image (w .keeps .0) y) z (rw (← j) (p .is)); counts = p .counts; kept = l }
 
   pub new-unread : {m k q : ℕ} {f g : Reading} → Measures b (Length.Bytes m) → ReadsImage (take m b) f → f .answer ≡ Answer.Accepted
       → ReadsImage (take (length b - m) (drop m b)) g → g .answer ≡ Answer.Refused k → q ≡ numberOf (readReply (g .answer) emptyDesign)
-      → Zero list′ → Printed (refusalText New q) text′ r → Reports b n s list′ text′ r
-  new-unread {m} {k} {q} {f} {g} w d a u e i z p =
+      → Zero list′ → length list′ ≡ s .written → Printed (refusalText New q) text′ r → Reports b n s list′ text′ r
+  new-unread {m} {k} {q} {f} {g} w d a u e i z l p =
       let x = rw e at (read-rest b m g u .keeps) in
       let y = subst (λ (j : ℕ). Lowest (ImageFault (drop j b)) k) (w .keeps .1) (x .0) in
       let j : q ≡ k = rw e at i in
-      record { answers = Answers.new-refused k (old-read w d a) y z (rw (← j) (p .is)); counts = p .counts }
+      record { answers = Answers.new-refused k (old-read w d a) y z (rw (← j) (p .is)); counts = p .counts; kept = l }
 
   pub both-read : {m : ℕ} {f g : Reading} → Measures b (Length.Bytes m) → ReadsImage (take m b) f → f .answer ≡ Answer.Accepted
       → ReadsImage (take (length b - m) (drop m b)) g → g .answer ≡ Answer.Accepted → ReportsDesigns (f .design) (g .design) n s list′ text′ r → Reports b n s list′ text′ r
@@ -72,4 +72,5 @@ module _ {b : List ℕ} {n : TablesLent} {s : Lent} {list′ text′ : List ℕ}
       record {
         answers = Answers.designs (old-read w d a) (subst (λ (j : ℕ). Free (ImageFault (drop j b))) e (y .0)) (rw (← e, ← x .1, ← y .1) (p .answers));
         counts = p .counts;
+        kept = p .kept;
       }

@@ -18,6 +18,7 @@ use engine::MappedAlike;
 use machine::Found;
 use machine::Pair;
 use std::num::wrapping_add_usize;
+use verdict::Judged;
 use verdict::Verdict;
 
 // Scratch, marks and list slices: each longer than the largest pair of machines needs.
@@ -351,15 +352,16 @@ fn compare_verdict(m: Machines, known: Answers, room: usize, tally: &mut [u64]) 
 // The verdict, in this slice.
 fn compare_judged(m: Machines, known: Answers, list: &mut [u8], tally: &mut [u64]) {
     let refused = refusal(known.judged_steps, list.len());
-    let verdict = judge(m, list, tally);
+    let judged = ask_verdict(m, list, tally);
     let same = known.apart == known.pairs;
     let lowest = pair_at(m.sizes, known.apart);
     expect(
         b"VERDICT",
-        is_verdict(verdict, same, lowest, known.judged_steps, refused),
+        is_verdict(judged.verdict, same, lowest, known.judged_steps, refused),
         m,
         tally,
     );
+    expect(b"COUNTS BESIDE A VERDICT", has_counts(judged, known, refused), m, tally);
     expect(
         b"BYTES OF A VERDICT",
         has_bytes(list, written(known.judged_steps, refused), &known.judged, 0),
@@ -394,15 +396,23 @@ fn is_verdict(verdict: Verdict, same: bool, lowest: Pair, steps: usize, refused:
     }
 }
 
-// Asks for the verdict.
-fn judge(m: Machines, list: &mut [u8], tally: &mut [u64]) -> Verdict {
+// Whether the counts of alike and alignable pairs come with a verdict, and none with a refusal.
+fn has_counts(judged: Judged, known: Answers, refused: u8) -> bool {
+    if refused != 0 {
+        return judged.alike == 0 && judged.alignable == 0;
+    }
+    judged.alike == known.alike_count && judged.alignable == known.alignable_count
+}
+
+// Asks for the verdict and the counts.
+fn ask_verdict(m: Machines, list: &mut [u8], tally: &mut [u64]) -> Judged {
     let mut depth = [9u16; SCRATCH];
     let mut reach = [9u16; SCRATCH];
     let old_next = m.old_next;
     let old_out = m.old_out;
     let new_next = m.new_next;
     let new_out = m.new_out;
-    let verdict = verdict::judge(
+    let judged = verdict::judge_counting(
         &old_next,
         &old_out,
         &new_next,
@@ -413,5 +423,5 @@ fn judge(m: Machines, list: &mut [u8], tally: &mut [u64]) -> Verdict {
         list,
     );
     expect_zero(b"SCRATCH OF A VERDICT", &depth, &reach, m, tally);
-    verdict
+    judged
 }

@@ -1,5 +1,5 @@
-// Pairs of machines of 3 or 4 states each and 1 to 3 vectors, drawn by a fixed generator, with outputs 0, 1 and 128, of which 0 is the more
-// frequent the rarer the others are drawn. Two machines drawn apart rarely have alike pairs, so each size is drawn in three ways: both
+// Pairs of machines of 3 or 4 states each and 1 to 3 vectors, drawn by a fixed generator. At least half of the outputs are
+// 0, the others mostly 1 and 128. Two machines drawn apart rarely have alike pairs, so each size is drawn in three ways: both
 // apart, and the new one made from the old one by renaming its states, as it is or with one entry changed. Where the new machine has more
 // states than the old one, some old states get two names; where it has fewer, the next states that have no name are drawn.
 use crate::bytes::at;
@@ -113,7 +113,7 @@ fn draw_table(seed: &mut u64, states: usize, zeros: usize, next: &mut [u8], out:
     }
 }
 
-// Draws an output: so often of 8 times 0, else 1 or 128.
+// Draws an output: 0 in `zeros` of 8 draws, else 1 or 128.
 fn output(seed: &mut u64, zeros: usize) -> usize {
     if roll(seed, 8) < zeros {
         return 0;

@@ -105,7 +105,7 @@ fn answer(number: usize, length: usize) -> usize {
     std::num::wrapping_add_usize(product::REFUSED, number)
 }
 
-// Counts an answered number.
+// Counts a number that the second way finds.
 fn count(from: usize, number: usize, counts: &mut [u32]) {
     lists::bump(counts, std::num::wrapping_add_usize(from, number));
 }

@@ -1,7 +1,7 @@
 // What was tried and how it came out, counted in one list of counts; and what is printed of it.
 use crate::lists;
 
-// Places in the list: numbers answered by the three calls (0 for none), then kinds of cases, then sizes seen.
+// Places in the list: numbers that the second way finds for the three calls (0 for none), then kinds of cases, then sizes seen.
 pub const READ: usize = 0;
 
 pub const MEASURED: usize = 16;

@@ -236,7 +236,7 @@ fn power(bits: u8) -> usize {
     1usize << bits
 }
 
-// Counts a difference between what was found and what is expected, and prints it if it is one of the first few.
+// Counts a difference between what was found and what is expected, prints it if it is one of the first few, and hands back whether it did.
 fn judge(
     what: &[u8],
     d: Design,

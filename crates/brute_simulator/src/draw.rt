@@ -207,7 +207,7 @@ fn with_shown(design: Design, k: u8, n: u8, net: u16) -> Design {
     d
 }
 
-// The design, or in a third of the draws the design with a size over its limit, or with a net one too high.
+// The design; in a third of the draws a size is set over its limit, or a net one too high, which may be one that counts for nothing.
 pub fn spoiled(random: &mut u32, design: Design) -> Design {
     let mut d = design;
     let nets = nets_of(d);

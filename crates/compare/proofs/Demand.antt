@@ -102,9 +102,9 @@ pub apart-undriven : (a b : Design) (l : List ℕ) (p : Pair) (n : ℕ) → Righ
 apart-undriven a b l p n (R.apart _ _ i d lower) = (i, d)
 
 -- "otherwise Same"
-pub driven-same : (a b : Design) (l : List ℕ) (r : Verdict) → Right a b l r → ((p : Pair) → In (sizesOf a b) p → Driven a b p) → (n : ℕ) × (r ≡ Verdict.Same n)
+pub driven-same : (a b : Design) (l : List ℕ) (r : Verdict) → Right a b l r → ((p : Pair) → In (sizesOf a b) p → (Driven a b p → ⊥) → ⊥) → (n : ℕ) × (r ≡ Verdict.Same n)
 driven-same a b l _ (R.same n h all) d = (n, refl)
-driven-same a b l _ (R.apart q n i g lower) d = absurd (g (d q i))
+driven-same a b l _ (R.apart q n i g lower) d = absurd (d q i g)
 
 -- no condition has number 0, so a refusal by 0 keeps no promise
 fault-positive : {a b : Design} {n : TablesLent} {s : Lent} {m : ℕ} → CompareFault a b n s m → 0 < m

@@ -20,10 +20,11 @@ use Rattle.machine.specs.Working.Pairs.{Closed}
 use Rattle.machine.proofs.Lent.{same-left}
 use Rattle.machine.proofs.Transfer.{same-back, same-closed}
 use Rattle.verdict.specs.declared.Verdict.{Verdict}
-use Rattle.verdict.specs.Meaning.Decision.{Decision, verdictReply, Decided, ShortList}
-use Rattle.verdict.proofs.Laws.{decision-unique, list-unique, reply-one}
+use Rattle.verdict.specs.declared.Judged.{Judged}
+use Rattle.verdict.specs.Meaning.Decision.{Decision, verdictReply, Decided, CountsBeside, ShortList}
+use Rattle.verdict.proofs.Laws.{decision-unique, list-unique, reply-one, counts-one}
 use Rattle.compare.specs.Meaning.Designs.{machineOf, sizesOf}
-use Rattle.compare.specs.Meaning.Comparing.{TablesLent, TablesLeft, CompareFault, Compared, ClearedAll, TablesKept, Compares}
+use Rattle.compare.specs.Meaning.Comparing.{TablesLent, TablesLeft, CompareFault, Compared, ClearedAll, TablesKept, Compares, ComparesCounting}
 use Rattle.compare.proofs.Agreement.{tables-agree}
 
 module _ (a b : Design) (n : TablesLent) (s : Lent) (t u : TablesLeft) (e f : Left) (i : TablesKept n t) (j : TablesKept n u) (x : Tidy s e) (y : Tidy s f) where
@@ -69,6 +70,14 @@ compares-unique a b n s t u e f q r g h =
     (verdictReply q) (verdictReply r) (g .keeps) (h .keeps) in
     (reply-one q r (w .0), w .1)
 
+-- and so are the counts
+pub compared-unique : (a b : Design) (n : TablesLent) (s : Lent) (t u : TablesLeft) (e f : Left) (q r : Judged)
+    → ComparesCounting a b n s t e q → ComparesCounting a b n s u f r → q ≡ r
+compared-unique a b n s t u e f q r g h =
+    let v = compares-unique a b n s t u e f (q .verdict) (r .verdict) (g .compares) (h .compares) .0 in
+    let k = counts-one (machineOf a) (machineOf b) (sizesOf a b) (verdictReply (r .verdict)) (subst (λ (x : Verdict). CountsBeside (machineOf a) (machineOf b) (sizesOf a b) (verdictReply x) (q .alike) (q .alignable)) v (g .counts)) (h .counts) in
+    λ i. record { verdict = v i; alike = k .0 i; alignable = k .1 i }
+
 -- "A design's entries beyond G, L and O count for nothing"
 same-machine : (a c : Design) → SameDesign a c → machineOf a ≡ machineOf c
 same-machine a c w = λ j. record { next = λ s v. same-next a c w s v j; out = λ s v. same-outputs a c w s v j }
@@ -96,4 +105,11 @@ same-comparison a b c d p q n s t e r h = record {
       (λ w. w) (verdictReply r) (h .keeps);
   tidy = h .tidy;
   tables = h .tables;
+}
+
+pub same-counting : (a b c d : Design) → SameDesign a c → SameDesign b d → (n : TablesLent) (s : Lent) (t : TablesLeft) (e : Left) (r : Judged)
+    → ComparesCounting a b n s t e r → ComparesCounting c d n s t e r
+same-counting a b c d p q n s t e r h = record {
+  compares = same-comparison a b c d p q n s t e (r .verdict) (h .compares);
+  counts = there a b c d p q (λ m0 m1 z. CountsBeside m0 m1 z (verdictReply (r .verdict)) (r .alike) (r .alignable)) (h .counts);
 }

@@ -14,9 +14,13 @@ use Rattle.machine.specs.Meaning.Rounds.{A, Unchanged, FirstUnchanged}
 use Rattle.machine.specs.Meaning.Tables.{In, Ok}
 use Rattle.sheet.specs.Meaning.Readings.{imageBits, shifts, four, Readings}
 
-bits-step : IsStep (decoded imageBits) 2 1 (record { next = 1; out = 2 })
+input-0 : IsStep (decoded imageBits) 0 2 (record { next = 2; out = 1 })
 unfolding decoded fieldAt horner bitAt listOf settled truth
-bits-step = record { next = refl; out = refl }
+input-0 = record { next = refl; out = refl }
+
+latch-0 : IsStep (decoded imageBits) 2 1 (record { next = 1; out = 2 })
+unfolding decoded fieldAt horner bitAt listOf settled truth
+latch-0 = record { next = refl; out = refl }
 
 fed : Ok four 0
 fed = record { below = lit< tt }
@@ -56,6 +60,7 @@ readings = record {
   nand-values = refl;
   nor-values = refl;
   xnor-values = refl;
-  bits-step = bits-step;
+  input-0 = input-0;
+  latch-0 = latch-0;
   second-round = second-round;
 }

@@ -110,7 +110,7 @@ module _ (t : Tables) (s : Lent) where
     verdict-unique = reply-one q r (judges-unique .0)
 
 -- nor two answers with their counts
-counts-one : (m0 m1 : Machine) (z : Sizes) {a b c d : ℕ} (x : Reply Decision) → CountsBeside m0 m1 z x a b → CountsBeside m0 m1 z x c d → (a ≡ c) × (b ≡ d)
+pub counts-one : (m0 m1 : Machine) (z : Sizes) {a b c d : ℕ} (x : Reply Decision) → CountsBeside m0 m1 z x a b → CountsBeside m0 m1 z x c d → (a ≡ c) × (b ≡ d)
 counts-one m0 m1 z (answer x) p q = (counts-unique (p .alike) (q .alike), counts-unique (p .alignable) (q .alignable))
 counts-one m0 m1 z (refusal n) p q = (p .0 ∙ sym (q .0), p .1 ∙ sym (q .1))
 

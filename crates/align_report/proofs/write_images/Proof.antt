@@ -1,5 +1,5 @@
 -- `write_images`: the old image ends within the input, and each text is that of its case.
-use mathlib.Core.Path.{sym}
+use mathlib.Core.Path.{refl, sym}
 use native.Mathlib.Omega.{arith}
 use lib.Seq.{length-take-le}
 use Rattle.align_report.proofs.Images.{front-fits, old-unmeasured, old-unread, new-unread, both-read}
@@ -26,7 +26,7 @@ same-length : tie.Need-same-length
 same-length c = search needs
 
 returns : tie.Need-returns
-returns c = old-unmeasured (c .before .before .before .before .before .before .before .length-of .ensures) (c .before .before .before .before .before .enum-told .given .1) (c .before .before .before .before .length .ensures) (c .before .before .before .before .before .before .before .before .before .before .before .before .before .before .before .before .before .pre .1) (c .before .before .put-refusal .ensures)
+returns c = old-unmeasured (c .before .before .before .before .before .before .before .length-of .ensures) (c .before .before .before .before .before .enum-told .given .1) (c .before .before .before .before .length .ensures) (c .before .before .before .before .before .before .before .before .before .before .before .before .before .before .before .before .before .pre .1) refl (c .before .before .put-refusal .ensures)
 
 slice-aggregate-read : tie.Need-slice-aggregate-read
 slice-aggregate-read c = sym (length-take-le _ _ (front-fits (rw (c .before .before .measured .given .1) at (c .before .before .before .before .length-of .ensures))))
@@ -50,7 +50,7 @@ same-length-2 : tie.Need-same-length-2
 same-length-2 c = search needs
 
 returns-2 : tie.Need-returns-2
-returns-2 c = old-unread (rw (c .before .before .before .before .before .before .before .before .before .before .measured .given .1) at (c .before .before .before .before .before .before .before .before .before .before .before .before .length-of .ensures)) (c .before .before .before .before .before .before .before .read .ensures) (c .before .before .before .before .before .enum-told3 .given .1) (c .before .before .before .before .answer .ensures) (c .before .before .before .before .before .before .before .before .before .before .before .before .before .before .before .before .before .before .before .before .before .before .pre .1) (c .before .before .put-refusal2 .ensures)
+returns-2 c = old-unread (rw (c .before .before .before .before .before .before .before .before .before .before .measured .given .1) at (c .before .before .before .before .before .before .before .before .before .before .before .before .length-of .ensures)) (c .before .before .before .before .before .before .before .read .ensures) (c .before .before .before .before .before .enum-told3 .given .1) (c .before .before .before .before .answer .ensures) (c .before .before .before .before .before .before .before .before .before .before .before .before .before .before .before .before .before .before .before .before .before .before .pre .1) refl (c .before .before .put-refusal2 .ensures)
 
 sub-read : tie.Need-sub-read
 sub-read c = front-fits (rw (c .before .before .before .before .before .measured .given .1) at (c .before .before .before .before .before .before .before .length-of .ensures))
@@ -80,7 +80,7 @@ same-length-3 : tie.Need-same-length-3
 same-length-3 c = search needs
 
 returns-3 : tie.Need-returns-3
-returns-3 c = new-unread (rw (c .before .before .before .before .before .before .before .before .before .before .before .before .before .before .measured .given .1) at (c .before .before .before .before .before .before .before .before .before .before .before .before .before .before .before .before .length-of .ensures)) (c .before .before .before .before .before .before .before .before .before .before .before .read .ensures) (c .before .before .before .before .before .before .before .before .before .enum-told2 .given .1) (c .before .before .before .before .before .before .before .read2 .ensures) (c .before .before .before .before .before .enum-told5 .given .1) (c .before .before .before .before .answer2 .ensures) (c .before .before .before .before .before .before .before .before .before .before .before .before .before .before .before .before .before .before .before .before .before .before .before .before .before .before .pre .1) (c .before .before .put-refusal3 .ensures)
+returns-3 c = new-unread (rw (c .before .before .before .before .before .before .before .before .before .before .before .before .before .before .measured .given .1) at (c .before .before .before .before .before .before .before .before .before .before .before .before .before .before .before .before .length-of .ensures)) (c .before .before .before .before .before .before .before .before .before .before .before .read .ensures) (c .before .before .before .before .before .before .before .before .before .enum-told2 .given .1) (c .before .before .before .before .before .before .before .read2 .ensures) (c .before .before .before .before .before .enum-told5 .given .1) (c .before .before .before .before .answer2 .ensures) (c .before .before .before .before .before .before .before .before .before .before .before .before .before .before .before .before .before .before .before .before .before .before .before .before .before .before .pre .1) refl (c .before .before .put-refusal3 .ensures)
 
 write-comparison-requires : tie.Need-write-comparison-requires
 write-comparison-requires c κs = c .before .before .before .before .before .before .before .before .before .before .before .before .before .before .before .before .before .before .before .before .before .before .before .before .before .before .before .before .before .before .before .pre .0

@@ -13,7 +13,7 @@
 use Prim.Native.Nat.{ℕ}
 use mathlib.Core.Path.{_≡_}
 use mathlib.Core.List.{List}
-use lib.ListN.{take, drop}
+use lib.ListN.{length, take, drop}
 use Rattle.io.specs.Counts as io
 use Rattle.memory.specs.Meaning.Refusals.{Free, Lowest}
 use Rattle.memory.specs.Meaning.Slices.{Zero}
@@ -78,9 +78,11 @@ pub data Answers (b : List ℕ) (n : TablesLent) (s : Lent) (list′ t : List �
   new-refused : (k : ℕ) → OldAccepted b → Lowest (ImageFault (newBytes b)) k → Zero list′ → t ≡ refusalText New k → Answers b n s list′ t
   designs : OldAccepted b → Free (ImageFault (newBytes b)) → AnswersDesigns (oldDesign b) (newDesign b) n s list′ t → Answers b n s list′ t
 
+-- the list slice keeps its length; beyond the text, text′ is free
 pub record Reports (b : List ℕ) (n : TablesLent) (s : Lent) (list′ text′ : List ℕ) (r : ℕ) : Type 0 where
   pub answers : Answers b n s list′ (take r text′)
   pub counts : io.Counts r text′
+  pub kept : length list′ ≡ s .written
 
 -- "two table slices a design, S × V bytes each", "two scratch slices of one 16-bit number a pair": for designs at every limit
 abbrev pub ownTables : TablesLent

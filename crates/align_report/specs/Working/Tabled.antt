@@ -2,8 +2,9 @@
 --   numberOf r                    the number of a refusal, and 0 of an answer
 --   ReportsDesigns a b n s list′ text′ r   the first r bytes of text′ are the text that answers the designs a and b
 use Prim.Native.Nat.{ℕ}
+use mathlib.Core.Path.{_≡_}
 use mathlib.Core.List.{List}
-use lib.ListN.{take}
+use lib.ListN.{length, take}
 use Rattle.io.specs.Counts.{Counts}
 use Rattle.memory.specs.Meaning.Refusals.{Reply, answer, refusal}
 use Rattle.netlist.specs.declared.Design.{Design}
@@ -18,3 +19,4 @@ numberOf (refusal n) = n
 pub record ReportsDesigns (a b : Design) (n : TablesLent) (s : Lent) (list′ text′ : List ℕ) (r : ℕ) : Type 0 where
   pub answers : AnswersDesigns a b n s list′ (take r text′)
   pub counts : Counts r text′
+  pub kept : length list′ ≡ s .written

@@ -1,4 +1,4 @@
--- Readings of the definitions for which the bench sheet has no line: the gates of two nets, the order of bits, and the number of a round.
+-- Readings of the definitions for which the bench sheet has no line: the values of every kind of gate, the order of bits, and the number of a round.
 --   valuesOf k   what kind k makes of 0 and 0, 0 and 1, 1 and 0, 1 and 1
 --   imageBits    two flip-flops that take the two inputs; the outputs are flip-flop 0 and input 0
 --   shifts       a machine of two bits that are shifted by one place at each step, the last one shown
@@ -37,7 +37,8 @@ pub record Readings : Type 0 where
   pub nand-values : valuesOf 5 ≡ 1 ∷ 1 ∷ 1 ∷ 0 ∷ []
   pub nor-values : valuesOf 6 ≡ 1 ∷ 0 ∷ 0 ∷ 0 ∷ []
   pub xnor-values : valuesOf 7 ≡ 1 ∷ 0 ∷ 0 ∷ 1 ∷ []
-  -- "with input 0 most significant; states (flip-flop 0 first) and outputs (output 0 first) likewise": flip-flop 0 alone is state 2, input 1 alone is vector 1
-  pub bits-step : IsStep (decoded imageBits) 2 1 (record { next = 1; out = 2 })
+  -- "with input 0 most significant; states (flip-flop 0 first) and outputs (output 0 first) likewise": input 0 alone is vector 2, flip-flop 0 alone is state 2, output 0 alone is output 2
+  pub input-0 : IsStep (decoded imageBits) 0 2 (record { next = 2; out = 1 })
+  pub latch-0 : IsStep (decoded imageBits) 2 1 (record { next = 1; out = 2 })
   -- "the number of the first round that changes nothing. Making A1 from A0 is round 1": here round 1 still drops pairs, and round 2 does not
   pub second-round : FirstUnchanged (A shifts shifts (Ok four)) (In four) 2
