@@ -353,15 +353,13 @@ fn compare_verdict(m: Machines, known: Answers, room: usize, tally: &mut [u64]) 
 fn compare_judged(m: Machines, known: Answers, list: &mut [u8], tally: &mut [u64]) {
     let refused = refusal(known.judged_steps, list.len());
     let judged = ask_verdict(m, list, tally);
-    let same = known.apart == known.pairs;
     let lowest = pair_at(m.sizes, known.apart);
     expect(
-        b"VERDICT",
-        is_verdict(judged.verdict, same, lowest, known.judged_steps, refused),
+        b"VERDICT AND COUNTS",
+        is_judged(judged, known, lowest, refused),
         m,
         tally,
     );
-    expect(b"COUNTS BESIDE A VERDICT", has_counts(judged, known, refused), m, tally);
     expect(
         b"BYTES OF A VERDICT",
         has_bytes(list, written(known.judged_steps, refused), &known.judged, 0),
@@ -381,6 +379,14 @@ fn compare_end(m: Machines, known: Answers, refused: u8, list: &[u8], tally: &mu
     }
     let aligned = aligns(m, &known.alike, list, known.judged_steps);
     expect(b"END OF THE LIST OF SAME", aligned, m, tally);
+}
+
+// Whether a verdict and its counts are those that the checker knows.
+fn is_judged(judged: Judged, known: Answers, lowest: Pair, refused: u8) -> bool {
+    let verdict = judged.verdict;
+    let same = known.apart == known.pairs;
+    is_verdict(verdict, same, lowest, known.judged_steps, refused)
+        && has_counts(judged, known, refused)
 }
 
 // Whether a verdict is Same or Apart at the lowest pair, with these steps, or has this refusal.
