@@ -54,7 +54,8 @@ pub fn read(image: &[u8]) -> Reading
     }
 }
 
-fn refusal(number: u8) -> Reading
+// A refusal, with the empty design beside it.
+pub fn refusal(number: u8) -> Reading
     ensures { λ r. ⌜ (r .answer ≡ Answer.Refused number) × (r .design ≡ emptyDesign) ⌝ }
 {
     let design = decode::empty();

@@ -1,4 +1,5 @@
 pub mod Refusals
+pub mod Orders
 pub mod Slices
 pub mod Filling
 pub mod Tests

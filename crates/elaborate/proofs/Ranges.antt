@@ -1,0 +1,82 @@
+-- The design of a drawing whose read variables have drivers: its nets are in range.
+use Prim.Native.Nat.{ℕ, suc, _+_, _-_, _*_, _/_, _%_, _<_, _≤_}
+use mathlib.Core.Path.{_≡_, refl, sym, _∙_, ap, subst}
+use mathlib.Core.Logic.{⊎-elim}
+use mathlib.Core.Bool.{Bool, true, false, cond, true≢false}
+use native.Mathlib.Omega.{arith}
+use native.Mathlib.Decide.{ℕ-discrete, decLt}
+use borrow.Author.Tests.{lt-ltb, le-ltb, eq-eqb, ne-eqb}
+use lib.Dec.{ltb}
+use lib.ListN.{length, getD}
+use Rattle.numbers.proofs.Order.{le-of-not-lt}
+use Rattle.memory.specs.Meaning.Lists.{listOf}
+use Rattle.memory.proofs.Lists.{getD-listOf}
+use Rattle.netlist.specs.declared.Cell.{Cell}
+use Rattle.netlist.specs.Meaning.Limits.{mostLatches, mostOutputs, mostCells}
+use Rattle.netlist.specs.Meaning.Gates.{blankCell}
+use Rattle.netlist.specs.Meaning.Nets.{netsOf, gateAt}
+use Rattle.netlist.specs.Working.Placing.{NetsBelow}
+use Rattle.netlist.specs.Meaning.Faults.{DesignFault, Accepted}
+use Rattle.netlist.proofs.Numbers.{not-5, accepted-of}
+use Rattle.drawing.specs.declared.Drawing.{Drawing}
+use Rattle.drawing.specs.Meaning.Lists.{has, place}
+use Rattle.drawing.specs.Meaning.Numbers.{owns, own, owners, next, shown, first, second, reads, readAt, readsOf}
+use Rattle.drawing.specs.Meaning.Wires.{negated, netOf, andCell, notCell, cellOf, drawn}
+use Rattle.drawing.specs.Meaning.Faults.{Driven, DrawingFault}
+use Rattle.drawing.specs.Working.Wiring.{Spelled}
+use Rattle.drawing.proofs.Lists.{split, has-place, has-entry, has-of, has-at, sift-has, sift-test}
+use Rattle.drawing.proofs.Nets.{netCount, net-low, under-low, read-next, at-shown, at-first, at-second}
+
+-- the cells
+pub cell-and : (d : Drawing) (i : ℕ) → i < d .ands → cellOf d i ≡ andCell d i
+cell-and d i h = simp (lt-ltb i (d .ands) h)
+
+pub cell-not : (d : Drawing) (i : ℕ) → d .ands ≤ i → i < d .ands + length (negated d) → cellOf d i ≡ notCell d (getD (negated d) (i - d .ands) 0)
+cell-not d i h l = simp (le-ltb i (d .ands) h, lt-ltb i (d .ands + length (negated d)) l)
+
+module _ {d : Drawing} (s : Spelled d) (served : DrawingFault d 18 → ⊥) where
+  module _ (few : d .ands + length (negated d) ≤ mostCells) where
+    nets : netsOf (drawn d) ≡ netCount d
+    unfolding drawn
+    nets = omega arith
+
+    pub drawn-gate : (i : ℕ) → i < d .ands + length (negated d) → gateAt (drawn d) i ≡ cellOf d i .gate
+    unfolding drawn
+    drawn-gate i h = ap (λ (c : Cell). c .gate) (getD-listOf mostCells (cellOf d) blankCell i (omega arith))
+
+    below : (i : ℕ) → i < d .ands + length (negated d) → NetsBelow (drawn d) (netsOf (drawn d)) i
+    below i h = go (decLt i (d .ands))
+      where
+        go : Dec (i < d .ands) → NetsBelow (drawn d) (netsOf (drawn d)) i
+        go (yes l) =
+            let e = drawn-gate i h ∙ ap (λ (c : Cell). c .gate) (cell-and d i l) in
+            record {
+              one = rw (e, nets) (net-low s served (first d i) (has-of (first d i) (reads d) (readAt d) (d .latches + d .outputs + i) (omega arith) (at-first d i l)));
+              two = rw (e, nets) (net-low s served (second d i) (has-of (second d i) (reads d) (readAt d) (d .latches + d .outputs + d .ands + i) (omega arith) (at-second d i l)));
+            }
+        go (no l) =
+            let e = drawn-gate i h ∙ ap (λ (c : Cell). c .gate) (cell-not d i (omega arith) h) in
+            record { one = rw (e, nets) (under-low s served (i - d .ands) (omega arith)); two = rw (e, nets) (omega arith) }
+
+    pub drawn-3 : DesignFault (drawn d) 3 → ⊥
+    unfolding drawn
+    drawn-3 (DesignFault.inputs l) = omega (arith, s .few-inputs, l)
+    drawn-3 (DesignFault.latches l) = omega (arith, s .few-latches, l)
+    drawn-3 (DesignFault.outputs l) = omega (arith, s .few-outputs, l)
+    drawn-3 (DesignFault.cells l) = omega (arith, few, l)
+
+    entry : (m n k : ℕ) (f : ℕ → ℕ) → n ≤ m → k < n → getD (listOf m (λ j. cond (ltb j n) (f j) 0)) k 0 ≡ f k
+    entry m n k f h l = getD-listOf m (λ j. cond (ltb j n) (f j) 0) 0 k (omega arith) ∙ simp (lt-ltb k n l)
+
+    pub drawn-5 : DesignFault (drawn d) 5 → ⊥
+    unfolding drawn
+    drawn-5 = not-5 below
+        (λ k h. rw nets (rw (entry mostLatches (d .latches) k (λ j. netOf d (next d j)) (s .few-latches) h) (net-low s served (next d k) (read-next d k h))))
+        (λ k h. rw nets (rw (entry mostOutputs (d .outputs) k (λ j. netOf d (shown d j)) (s .few-outputs) h)
+        (net-low s served (shown d k) (has-of (shown d k) (reads d) (readAt d) (d .latches + k) (omega arith) (at-shown d k h)))))
+
+-- "3 .., 5 and 9 find nothing in it": the design of a drawing that is not turned away is accepted
+pub drawn-accepted : {d : Drawing} → Spelled d → ((n : ℕ) → DrawingFault d n → ⊥) → Accepted (drawn d)
+drawn-accepted {d} s free =
+    let few : d .ands + length (negated d) ≤ mostCells = le-of-not-lt (λ l. free 3 (DrawingFault.cells l)) in
+    accepted-of (drawn-3 s (free 18) few) (drawn-5 s (free 18) few) (λ i p. free 9 (DrawingFault.loop i p))

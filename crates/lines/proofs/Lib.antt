@@ -1,0 +1,3 @@
+pub mod Scanning
+pub mod Fields
+pub mod Rows
