@@ -1,20 +1,21 @@
 -- Laws on the cells of a drawing.
 use Prim.Native.Nat.{ℕ, _+_, _-_, _*_, _<_, _≤_}
-use mathlib.Core.Path.{_≡_, sym, _∙_, ap}
+use mathlib.Core.Path.{_≡_, refl, sym, _∙_, ap}
 use mathlib.Core.List.{List}
 use native.Mathlib.Omega.{arith}
 use lib.ListN.{getD}
 use Rattle.netlist.specs.declared.Gate.the-variants.{Not, And}
 use Rattle.netlist.specs.declared.Cell.{Cell}
 use Rattle.drawing.specs.declared.Drawing.{Drawing}
-use Rattle.drawing.specs.Meaning.Numbers.{first, second, reads, readAt}
+use Rattle.drawing.specs.Meaning.Numbers.{first, second}
 use Rattle.drawing.specs.Meaning.Wires.{negated, netOf, cellOf}
+use Rattle.drawing.specs.Working.Places.{reads, readAt}
 use Rattle.drawing.specs.Working.Wiring.{Wired}
-use Rattle.drawing.proofs.Nets.{at-first, at-second, read-of}
+use Rattle.drawing.proofs.Places.{at-first, at-second, has-read}
 use Rattle.elaborate.proofs.Ranges.{cell-and, cell-not}
 
 pub read-net : {d : Drawing} {l v : List ℕ} {k : ℕ} → Wired d l v k → (r x : ℕ) → r < reads d → x ≡ readAt d r → getD l x 0 ≡ netOf d (readAt d r)
-read-net {d} {l} w r x h e = ap (λ (y : ℕ). getD l y 0) e ∙ w .reads (readAt d r) (read-of d r h)
+read-net {d} {l} w r x h e = ap (λ (y : ℕ). getD l y 0) e ∙ w .reads (readAt d r) (has-read d (readAt d r) r h refl)
 
 pub and-gate : (d : Drawing) (i a b : ℕ) → i < d .ands → a ≡ netOf d (readAt d (d .latches + d .outputs + i)) → b ≡ netOf d (readAt d (d .latches + d .outputs + i + d .ands)) → And a b ≡ cellOf d i .gate
 and-gate d i a b h p q =

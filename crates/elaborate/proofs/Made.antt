@@ -23,12 +23,13 @@ use Rattle.image.specs.declared.Reading.{Reading}
 use Rattle.image.specs.Meaning.Reading.{emptyDesign}
 use Rattle.drawing.specs.declared.Drawing.{Drawing}
 use Rattle.memory.specs.Meaning.Orders.{First}
-use Rattle.drawing.specs.Meaning.Numbers.{next, shown, readAt}
+use Rattle.drawing.specs.Meaning.Numbers.{next, shown}
 use Rattle.drawing.specs.Meaning.Wires.{negated, netOf, cellOf, drawn}
 use Rattle.drawing.specs.Meaning.Faults.{DrawingFault}
+use Rattle.drawing.specs.Working.Places.{readAt}
 use Rattle.drawing.specs.Working.Wiring.{Spelled}
 use Rattle.elaborate.specs.Working.Drawn.{Draws}
-use Rattle.drawing.proofs.Nets.{at-shown}
+use Rattle.drawing.proofs.Places.{at-next, at-shown}
 use Rattle.elaborate.proofs.Ranges.{drawn-3, drawn-5}
 use Rattle.drawing.proofs.Numbers as Numbers
 
@@ -54,13 +55,10 @@ module _ (d : Drawing) (count : ℕ) (is : count ≡ length (negated d)) where
   unfolding drawn
   made n cells reads shows e fc fd fs =
       let c = all-cells cells fc in
-      let r = filled-listOf (λ k. netOf d (next d k)) 0 mostLatches (d .latches) reads (filled-as (λ k. netOf d (next d k)) (λ k h. ap (netOf d) (at-next k h)) fd) in
+      let r = filled-listOf (λ k. netOf d (next d k)) 0 mostLatches (d .latches) reads (filled-as (λ k. netOf d (next d k)) (λ k h. ap (λ (r : ℕ). netOf d (readAt d r)) (zero-add k) ∙ ap (netOf d) (at-next d k h)) fd) in
       let s = filled-listOf (λ k. netOf d (shown d k)) 0 mostOutputs (d .outputs) shows (filled-as (λ k. netOf d (shown d k)) (λ k h. ap (netOf d) (at-shown d k h)) fs) in
       let m : n ≡ d .ands + length (negated d) = omega arith in
       rw (m, c, r, s)
-    where
-      at-next : (k : ℕ) → k < d .latches → readAt d (0 + k) ≡ next d k
-      at-next k h = rw (zero-add k) (simp (lt-ltb k (d .latches) h))
 
 -- the replies
 turned-away : {d : Drawing} {r : Reading} {n : ℕ} → First (DrawingFault d) (18 ∷ 3 ∷ 9 ∷ []) n → r .answer ≡ Refused n → r .design ≡ emptyDesign → Draws d r
@@ -85,7 +83,7 @@ module _ {d : Drawing} (s : Spelled d) (served : DrawingFault d 18 → ⊥) (few
       go : Kind (drawn d) m → DrawingFault d 9
       go (three q f) = absurd (drawn-3 s served few f)
       go (five q f) = absurd (drawn-5 s served few f)
-      go (nine q i p) = DrawingFault.loop i p
+      go (nine q i p) = DrawingFault.loop (DesignFault.loop i p)
 
   pub draws-none : {c : Design} {m : ℕ} → c ≡ drawn d → LowestOrNone (DesignFault c) m → m ≡ 0 → Draws d (record { answer = Accepted; design = c })
   draws-none {c} is low z = record { keeps = (free, is) }
@@ -99,4 +97,4 @@ module _ {d : Drawing} (s : Spelled d) (served : DrawingFault d 18 → ⊥) (few
           go (Numbers.Kind.nine e) = nine-of (rw e at f)
             where
               nine-of : DrawingFault d 9 → ⊥
-              nine-of (DrawingFault.loop i p) = low .none z 9 (rw is (DesignFault.loop i p))
+              nine-of (DrawingFault.loop p) = low .none z 9 (rw is p)

@@ -20,12 +20,13 @@ use Rattle.netlist.specs.Meaning.Faults.{DesignFault, Accepted}
 use Rattle.netlist.proofs.Numbers.{not-5, accepted-of}
 use Rattle.drawing.specs.declared.Drawing.{Drawing}
 use Rattle.drawing.specs.Meaning.Lists.{has, place}
-use Rattle.drawing.specs.Meaning.Numbers.{owns, own, owners, next, shown, first, second, reads, readAt, readsOf}
+use Rattle.drawing.specs.Meaning.Numbers.{next, shown, first, second}
 use Rattle.drawing.specs.Meaning.Wires.{negated, netOf, andCell, notCell, cellOf, drawn}
-use Rattle.drawing.specs.Meaning.Faults.{Driven, DrawingFault}
+use Rattle.drawing.specs.Meaning.Faults.{DrawingFault}
 use Rattle.drawing.specs.Working.Wiring.{Spelled}
 use Rattle.drawing.proofs.Lists.{split, has-place, has-entry, has-of, has-at, sift-has, sift-test}
-use Rattle.drawing.proofs.Nets.{netCount, net-low, under-low, read-next, at-shown, at-first, at-second}
+use Rattle.drawing.proofs.Places.{read-next, read-shown, read-first, read-second}
+use Rattle.drawing.proofs.Nets.{netCount, net-low, under-low}
 
 -- the cells
 pub cell-and : (d : Drawing) (i : ℕ) → i < d .ands → cellOf d i ≡ andCell d i
@@ -51,8 +52,8 @@ module _ {d : Drawing} (s : Spelled d) (served : DrawingFault d 18 → ⊥) wher
         go (yes l) =
             let e = drawn-gate i h ∙ ap (λ (c : Cell). c .gate) (cell-and d i l) in
             record {
-              one = rw (e, nets) (net-low s served (first d i) (has-of (first d i) (reads d) (readAt d) (d .latches + d .outputs + i) (omega arith) (at-first d i l)));
-              two = rw (e, nets) (net-low s served (second d i) (has-of (second d i) (reads d) (readAt d) (d .latches + d .outputs + d .ands + i) (omega arith) (at-second d i l)));
+              one = rw (e, nets) (net-low s served (first d i) (read-first d i l));
+              two = rw (e, nets) (net-low s served (second d i) (read-second d i l));
             }
         go (no l) =
             let e = drawn-gate i h ∙ ap (λ (c : Cell). c .gate) (cell-not d i (omega arith) h) in
@@ -73,10 +74,10 @@ module _ {d : Drawing} (s : Spelled d) (served : DrawingFault d 18 → ⊥) wher
     drawn-5 = not-5 below
         (λ k h. rw nets (rw (entry mostLatches (d .latches) k (λ j. netOf d (next d j)) (s .few-latches) h) (net-low s served (next d k) (read-next d k h))))
         (λ k h. rw nets (rw (entry mostOutputs (d .outputs) k (λ j. netOf d (shown d j)) (s .few-outputs) h)
-        (net-low s served (shown d k) (has-of (shown d k) (reads d) (readAt d) (d .latches + k) (omega arith) (at-shown d k h)))))
+        (net-low s served (shown d k) (read-shown d k h))))
 
 -- "3 .., 5 and 9 find nothing in it": the design of a drawing that is not turned away is accepted
 pub drawn-accepted : {d : Drawing} → Spelled d → ((n : ℕ) → DrawingFault d n → ⊥) → Accepted (drawn d)
 drawn-accepted {d} s free =
     let few : d .ands + length (negated d) ≤ mostCells = le-of-not-lt (λ l. free 3 (DrawingFault.cells l)) in
-    accepted-of (drawn-3 s (free 18) few) (drawn-5 s (free 18) few) (λ i p. free 9 (DrawingFault.loop i p))
+    accepted-of (drawn-3 s (free 18) few) (drawn-5 s (free 18) few) (λ i p. free 9 (DrawingFault.loop (DesignFault.loop i p)))

@@ -6,7 +6,7 @@ ghost use Rattle.memory.specs.Meaning.Slices.{Zero};
 ghost use Rattle.memory.specs.Working.Filling.{Filled};
 ghost use Rattle.netlist.specs.Meaning.Limits.{mostCells};
 ghost use Rattle.netlist.specs.Meaning.Gates.{blankCell};
-ghost use Rattle.drawing.specs.Meaning.Numbers.{reads, readAt};
+ghost use Rattle.drawing.specs.Working.Places.{reads, readAt};
 ghost use Rattle.drawing.specs.Meaning.Wires.{netOf, cellOf};
 ghost use Rattle.drawing.specs.Working.Wiring.{Spelled, Wired};
 use drawing::Drawing;

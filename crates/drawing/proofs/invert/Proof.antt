@@ -4,7 +4,7 @@ use mathlib.Core.Bool.{false}
 use mathlib.Core.Path.{refl}
 use native.Mathlib.Omega.{arith}
 use lib.ListN.{getD}
-use Rattle.drawing.specs.Meaning.Numbers.{owns}
+use Rattle.drawing.specs.Working.Places.{owns}
 use Rattle.drawing.specs.Working.Wiring.{Inverted}
 use Rattle.drawing.proofs.Wiring.{inverted-none, inverted-yes, inverted-no, inverted-all}
 use borrow.Author.Needs.{needs}
@@ -12,10 +12,10 @@ use Rattle.drawing.proofs.invert.Statement.{statement}
 use Rattle.drawing.proofs.invert.Tie as tie
 
 abbrev Inv-loop : tie.InvT-loop
-Inv-loop marks base most nets₀ nots₀ count₀ v₀ nets nots count v = (v ≤ most) × Inverted (λ u. getD marks u false) base nets₀ v nets nots count
+Inv-loop marks base highest nets₀ nots₀ count₀ v₀ nets nots count v = (v ≤ highest) × Inverted (λ u. getD marks u false) base nets₀ v nets nots count
 
 abbrev μ-loop : tie.MeasureT-loop
-μ-loop marks base most nets₀ nots₀ count₀ v₀ nets nots count v = most - v
+μ-loop marks base highest nets₀ nots₀ count₀ v₀ nets nots count v = highest - v
 
 add-base : tie.Need-add-base Inv-loop μ-loop
 add-base c = search needs
@@ -82,7 +82,7 @@ loop-again-2 c = (search needs, inverted-no (c .before .before .loop .inv .1) (c
 
 returns : tie.Need-returns Inv-loop μ-loop
 returns c =
-    (refl, inverted-all (2 + owns (c .before .before .before .before .before .args .d)) (c .before .before .before .before .before .args .d .most) (omega arith) (omega arith) (c .before .loop .inv .1))
+    (refl, inverted-all (2 + owns (c .before .before .before .before .before .args .d)) (c .before .before .before .before .before .args .d .highest) (omega arith) (omega arith) (c .before .loop .inv .1))
 
 pub invert-spec : {M : Type 1} → statement M
 invert-spec =

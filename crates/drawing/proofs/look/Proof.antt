@@ -2,7 +2,7 @@
 use Prim.Native.Nat.{_-_, _≤_}
 use mathlib.Core.Logic.{⊎-elim}
 use native.Mathlib.Omega.{arith}
-use Rattle.drawing.specs.Meaning.Faults.{Driven}
+use Rattle.drawing.specs.Working.Places.{Driven}
 use Rattle.drawing.specs.Working.Wiring.{Looked}
 use Rattle.drawing.proofs.Wiring.{not-driven, is-driven, looked-none, looked-even, looked-odd, looks-wrong, looks-right}
 use borrow.Author.Needs.{needs}
@@ -30,11 +30,11 @@ loop-holds c = (search needs, looked-none (c .before .before .before .args .d))
 read-literal-requires : tie.Need-read-literal-requires Inv-loop μ-loop
 read-literal-requires c κs = search needs
 
-sub-if1 : tie.Need-sub-if1 Inv-loop μ-loop
-sub-if1 c = search needs
-
 mul-if1 : tie.Need-mul-if1 Inv-loop μ-loop
 mul-if1 c = search needs
+
+mul-if1-2 : tie.Need-mul-if1-2 Inv-loop μ-loop
+mul-if1-2 c = search needs
 
 array-read-if1 : tie.Need-array-read-if1 Inv-loop μ-loop
 array-read-if1 c = search needs
@@ -77,8 +77,8 @@ look-spec =
     add-count-3
     loop-holds
     read-literal-requires
-    sub-if1
     mul-if1
+    mul-if1-2
     array-read-if1
     returns
     array-write-marks

@@ -1,5 +1,5 @@
 -- `wires_of`: drivers, reads, and then NOT cells.
-use Rattle.drawing.specs.Meaning.Faults.{DrawingFault}
+use Rattle.drawing.proofs.Places.{two-drivers}
 use Rattle.drawing.proofs.Wired.{served, wired, undriven-wires, driven-wires}
 use borrow.Author.Needs.{needs}
 use Rattle.drawing.proofs.wires_of.Statement.{statement}
@@ -14,7 +14,7 @@ undriven-requires c κs = search needs
 returns : tie.Need-returns
 returns c =
     let t = c .before .before .before .drive .ensures .wrong (c .before .if1 .taken) in
-    undriven-wires (c .undriven .ensures) (DrawingFault.twice (t .0) (t .1) (t .2) (t .3) (t .4))
+    undriven-wires (c .undriven .ensures) (two-drivers _ (t .0) (t .1) (t .2) (t .3) (t .4))
 
 look-requires : tie.Need-look-requires
 look-requires c κs = (c .before .before .before .pre, c .before .before .drive .ensures .right (c .if1 .left))

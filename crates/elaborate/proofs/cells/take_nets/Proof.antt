@@ -5,7 +5,7 @@ use native.Mathlib.Omega.{arith}
 use lib.ListN.{length}
 use Rattle.memory.specs.Working.Filling.{Filled}
 use Rattle.memory.proofs.Filling.{filled-zero, filled-more}
-use Rattle.drawing.specs.Meaning.Numbers.{readAt}
+use Rattle.drawing.specs.Working.Places.{readAt}
 use Rattle.drawing.specs.Meaning.Wires.{netOf}
 use borrow.Author.Needs.{needs}
 use Rattle.elaborate.proofs.cells.take_nets.Statement.{statement}
