@@ -17,7 +17,7 @@ use Rattle.verdict.specs.Meaning.Decision.{CountsPairs}
 use Rattle.compare.specs.Meaning.Designs.{machineOf, sizesOf}
 use Rattle.compare.specs.Meaning.Comparing.{TablesLent, TablesLeft, CompareFault, Compares, ComparesCounting}
 use Rattle.compare.proofs.Agreement.{states-few, vectors-few}
-use Rattle.report.specs.Working.Put.{Small}
+use Rattle.report.specs.Working.Tracing.{Small}
 
 module _ {a b : Design} {n : TablesLent} {s : Lent} (free : Free (CompareFault a b n s)) where
   accepted : Accepted a × Accepted b

@@ -25,7 +25,8 @@ use Rattle.compare.specs.Meaning.Comparing.{TablesLent, TablesLeft, tablesLeftO
 use Rattle.compare.proofs.Agreement.{tables-agree}
 use Rattle.report.specs.declared.Facts.{Facts}
 use Rattle.report.specs.declared.Side.the-variants.{Both}
-use Rattle.report.specs.Meaning.Text.{refusalText, sameText, apartText, apartIn, shownLine, Printed}
+use Rattle.pieces.specs.Meaning.Pieces.{Printed}
+use Rattle.report.specs.Meaning.Text.{refusalText, sameText, apartText, apartIn, shownLine}
 use Rattle.report.proofs.Listing.{apart-same}
 use Rattle.align_report.specs.Meaning.Report.{FactsOf, AnswersDesigns}
 use Rattle.align_report.specs.Working.Tabled.{numberOf, ReportsDesigns}

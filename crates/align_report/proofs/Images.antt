@@ -18,7 +18,8 @@ use Rattle.image.specs.Meaning.Reading.{Measures, ReadsImage, lengthReply, read
 use Rattle.machine.specs.Meaning.Lent.{Lent}
 use Rattle.compare.specs.Meaning.Comparing.{TablesLent}
 use Rattle.report.specs.declared.Side.the-variants.{Old, New}
-use Rattle.report.specs.Meaning.Text.{refusalText, Printed}
+use Rattle.pieces.specs.Meaning.Pieces.{Printed}
+use Rattle.report.specs.Meaning.Text.{refusalText}
 use Rattle.align_report.specs.Meaning.Report.{OldRefused, OldAccepted, Answers, Reports, newBytes}
 use Rattle.align_report.specs.Working.Tabled.{numberOf, ReportsDesigns}
 

@@ -5,7 +5,8 @@ use Prim.Native.Nat.{ℕ}
 use Rattle.machine.specs.Meaning.Machine.{Machine}
 use Rattle.report.specs.declared.Facts.{Facts}
 use Rattle.report.specs.declared.Side.the-variants.{Both}
-use Rattle.report.specs.Meaning.Text.{bytes, placesIn, places, spelled, refusalText, sameText, apartText}
+use Rattle.pieces.specs.Meaning.Pieces.{bytes, placesIn, places, spelled}
+use Rattle.report.specs.Meaning.Text.{refusalText, sameText, apartText}
 
 abbrev pub facts : ℕ → ℕ → Facts
 facts a b = record { inputs = 1; outputs = 1; «old_latches» = 1; «new_latches» = 1; pairs = 4; alike = a; alignable = b }

@@ -1,4 +1,3 @@
 pub mod Spelling
-pub mod Putting
 pub mod Listing
 pub mod Examples

@@ -12,8 +12,8 @@ use Rattle.machine.specs.Meaning.Machine.{Machine, step}
 use Rattle.machine.proofs.Lists.{run-append}
 use Rattle.report.specs.declared.Facts.{Facts}
 use Rattle.report.specs.Meaning.Text.{lines, headText, pairLine, shownAt, shownLines, apartText}
-use Rattle.report.specs.Working.Put.{Put}
-use Rattle.report.proofs.Putting.{put-none, put-then}
+use Rattle.pieces.specs.Working.Put.{Put}
+use Rattle.pieces.proofs.Putting.{put-none, put-then}
 
 -- the lines of the first i vectors of a list stand in the text, and its walk has come to q
 pub record Listed {X : Type 0} (line : X → ℕ → List ℕ) (next : X → ℕ → X) (most : ℕ) (x : X) (list : List ℕ) (at : ℕ) (t text : List ℕ) (i e : ℕ) (q : X) : Type 0 where

@@ -1,14 +1,14 @@
 // The text that the program `align` prints, as bytes in a lent slice. What is printed is a function of the numbers, lists
 // and tables that it is given; who computes these stands above. Each call hands back how many bytes the text has.
 mod lines;
-mod pieces;
 mod steps;
 
 ghost use Prim.Native.Nat.{_+_, _*_, _≤_};
 ghost use lib.ListN.{length, take};
 ghost use Rattle.machine.specs.Meaning.Tables.{bothTables};
-ghost use Rattle.report.specs.Meaning.Text.{refusalText, sameText, apartIn, Printed};
-ghost use Rattle.report.specs.Working.Put.{Small};
+ghost use Rattle.pieces.specs.Meaning.Pieces.{Printed};
+ghost use Rattle.report.specs.Meaning.Text.{refusalText, sameText, apartIn};
+ghost use Rattle.report.specs.Working.Tracing.{Small};
 use machine::Pair;
 use machine::Sizes;
 

@@ -2,10 +2,10 @@
 ghost use Prim.Native.Nat.{_+_, _*_, _<_, _≤_};
 ghost use mathlib.Core.List.{_++_};
 ghost use lib.ListN.{length, take};
-ghost use Rattle.report.specs.Meaning.Text.{spelled, lastField, sizesLine, headText, pairLine, shownLine, vectorLine, vectorLines};
-ghost use Rattle.report.specs.Working.Put.{Put};
+ghost use Rattle.pieces.specs.Meaning.Pieces.{spelled, lastField};
+ghost use Rattle.report.specs.Meaning.Text.{sizesLine, headText, pairLine, shownLine, vectorLine, vectorLines};
+ghost use Rattle.pieces.specs.Working.Put.{Put};
 use crate::Facts;
-use crate::pieces;
 use machine::Pair;
 
 // The lines in front of a verdict.

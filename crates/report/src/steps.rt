@@ -4,10 +4,10 @@ ghost use mathlib.Core.Path.{_≡_};
 ghost use lib.ListN.{length, take};
 ghost use Rattle.machine.specs.Meaning.Tables.{entry, bothTables};
 ghost use Rattle.search.specs.Working.{move};
-ghost use Rattle.report.specs.Working.Put.{shownIn};
-ghost use Rattle.report.specs.Working.Put.{Put, Small};
+ghost use Rattle.report.specs.Working.Tracing.{shownIn};
+ghost use Rattle.pieces.specs.Working.Put.{Put};
+ghost use Rattle.report.specs.Working.Tracing.{Small};
 use crate::lines;
-use crate::pieces;
 use machine::Pair;
 use machine::Sizes;
 

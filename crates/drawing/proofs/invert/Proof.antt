@@ -12,10 +12,10 @@ use Rattle.drawing.proofs.invert.Statement.{statement}
 use Rattle.drawing.proofs.invert.Tie as tie
 
 abbrev Inv-loop : tie.InvT-loop
-Inv-loop marks base highest nets₀ nots₀ count₀ v₀ nets nots count v = (v ≤ highest) × Inverted (λ u. getD marks u false) base nets₀ v nets nots count
+Inv-loop marks base most nets₀ nots₀ count₀ v₀ nets nots count v = (v ≤ most) × Inverted (λ u. getD marks u false) base nets₀ v nets nots count
 
 abbrev μ-loop : tie.MeasureT-loop
-μ-loop marks base highest nets₀ nots₀ count₀ v₀ nets nots count v = highest - v
+μ-loop marks base most nets₀ nots₀ count₀ v₀ nets nots count v = most - v
 
 add-base : tie.Need-add-base Inv-loop μ-loop
 add-base c = search needs

@@ -1,7 +1,7 @@
 -- `put_refusal`: the words of each side.
 use borrow.Author.Needs.{needs}
 use native.Mathlib.Omega.{arith}
-use Rattle.report.proofs.Putting.{put-printed}
+use Rattle.pieces.proofs.Putting.{put-printed}
 use Rattle.report.proofs.put_refusal.Statement.{statement}
 use Rattle.report.proofs.put_refusal.Tie as tie
 

@@ -2,7 +2,7 @@
 use borrow.Author.Needs.{needs}
 use native.Mathlib.Omega.{arith}
 use lib.Seq.{length-take-le}
-use Rattle.report.proofs.Putting.{put-then, put-printed}
+use Rattle.pieces.proofs.Putting.{put-then, put-printed}
 use Rattle.report.proofs.put_same.Statement.{statement}
 use Rattle.report.proofs.put_same.Tie as tie
 

@@ -1,8 +1,4 @@
 -- What the program `align` prints. A text is a list of bytes.
---   bytes s                    the bytes of a quoted text
---   places n, spelled n        how many decimal digits the number n has, and these digits
---   newline                    the end of a line
---   field s n, lastField s n   the number n behind the words s, inside a line and at its end
 --   lines line next x l        a line for each vector of the list l, each at the place to which the vectors before it lead from x
 --   refusalText who n          the text of a refusal
 --   sizesLine, countLine, headText   the lines in front of a verdict
@@ -10,48 +6,17 @@
 --   apartText m0 m1 f p l      the text of Apart with the pair p and its trace l, of the machines m0 and m1
 --   shownLines                 the lines of a trace of two machines
 --   apartIn t f p l            the text of Apart, of the machines in the tables t
---   Printed l text′ r          the first r bytes of text′ are the text l
-use Prim.Native.Nat.{ℕ, zero, suc, _/_}
-use Prim.Native.Char.{code}
-use Prim.Native.String.{String, [] as end, _∷_ as _then_}
-use mathlib.Core.Path.{_≡_}
-use mathlib.Core.Bool.{cond}
+use Prim.Native.Nat.{ℕ}
+use Prim.Native.String.{String}
 use mathlib.Core.List.{List, [], _∷_, _++_}
-use lib.Dec.{ltb}
-use lib.ListN.{length, take}
-use Rattle.io.specs.Counts.{Counts}
-use Rattle.io.specs.Digits.{digits}
+use lib.ListN.{length}
 use Rattle.machine.specs.declared.Pair.{Pair}
 use Rattle.machine.specs.Meaning.Machine.{Machine, step}
 use Rattle.machine.specs.Meaning.Tables.{Tables, oldMachine, newMachine}
+use Rattle.pieces.specs.Meaning.Pieces.{spelled, newline, field, lastField}
 use Rattle.report.specs.declared.Facts.{Facts}
 use Rattle.report.specs.declared.Side.{Side}
 use Rattle.report.specs.declared.Side.the-variants.{Old, New, Both}
-
--- every character of these texts is one byte
-abbrev pub bytes : String → List ℕ
-bytes end = []
-bytes (c then s) = code c ∷ bytes s
-
--- "the rest decimal": n has one digit below 10, else one more than n / 10. That these are the fewest that hold n is a law (places-fewest)
-unfoldable pub placesIn : ℕ → ℕ → ℕ
-placesIn zero n = 1
-placesIn (suc k) n = cond (ltb n 10) 1 (suc (placesIn k (n / 10)))
-
-unfoldable pub places : ℕ → ℕ
-places n = placesIn n n
-
-unfoldable pub spelled : ℕ → List ℕ
-spelled n = digits 10 (places n) n
-
-abbrev pub newline : List ℕ
-newline = bytes "\n"
-
-abbrev pub field : String → ℕ → List ℕ
-field s n = bytes s ++ spelled n
-
-abbrev pub lastField : String → ℕ → List ℕ
-lastField s n = field s n ++ newline
 
 -- what a list prints: at each place the line of its next vector
 abbrev pub lines : {X : Type 0} → (X → ℕ → List ℕ) → (X → ℕ → X) → X → List ℕ → List ℕ
@@ -112,8 +77,3 @@ module _ (m0 m1 : Machine) where
 -- the same of the machines in two tables
 abbrev pub apartIn : Tables → Facts → Pair → List ℕ → List ℕ
 apartIn t f p l = apartText (oldMachine t) (newMachine t) f p l
-
--- nothing else is printed: the first r bytes, and so many there are
-pub record Printed (l text′ : List ℕ) (r : ℕ) : Type 0 where
-  pub is : take r text′ ≡ l
-  pub counts : Counts r text′

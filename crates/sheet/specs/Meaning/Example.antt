@@ -5,7 +5,7 @@ use Prim.Native.Nat.{ℕ}
 use mathlib.Core.Path.{_≡_}
 use mathlib.Core.List.{List, _++_}
 use lib.ListN.{length}
-use Rattle.report.specs.Meaning.Text.{bytes}
+use Rattle.pieces.specs.Meaning.Pieces.{bytes}
 use Rattle.align_report.specs.Meaning.Report.{Answers, ownTables, ownSlices}
 use Rattle.sheet.specs.Meaning.Sheet.{imageP, imageQ}
 

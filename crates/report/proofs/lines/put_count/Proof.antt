@@ -2,7 +2,7 @@
 use borrow.Author.Needs.{needs}
 use mathlib.Core.Path.{refl}
 use native.Mathlib.Omega.{arith}
-use Rattle.report.proofs.Putting.{put-as, put-then}
+use Rattle.pieces.proofs.Putting.{put-as, put-then}
 use Rattle.report.proofs.lines.put_count.Statement.{statement}
 use Rattle.report.proofs.lines.put_count.Tie as tie
 

@@ -1,6 +1,6 @@
 -- `put_head`: three lines, one behind another.
 use borrow.Author.Needs.{needs}
-use Rattle.report.proofs.Putting.{put-then}
+use Rattle.pieces.proofs.Putting.{put-then}
 use Rattle.report.proofs.lines.put_head.Statement.{statement}
 use Rattle.report.proofs.lines.put_head.Tie as tie
 

@@ -1,6 +1,6 @@
 -- `put_pair`: three numbers of one line.
 use borrow.Author.Needs.{needs}
-use Rattle.report.proofs.Putting.{put-then}
+use Rattle.pieces.proofs.Putting.{put-then}
 use Rattle.report.proofs.lines.put_pair.Statement.{statement}
 use Rattle.report.proofs.lines.put_pair.Tie as tie
 

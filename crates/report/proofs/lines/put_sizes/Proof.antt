@@ -1,6 +1,6 @@
 -- `put_sizes`: four numbers of one line.
 use borrow.Author.Needs.{needs}
-use Rattle.report.proofs.Putting.{put-then}
+use Rattle.pieces.proofs.Putting.{put-then}
 use Rattle.report.proofs.lines.put_sizes.Statement.{statement}
 use Rattle.report.proofs.lines.put_sizes.Tie as tie
 

@@ -2,7 +2,7 @@
 use borrow.Author.Needs.{needs}
 use native.Mathlib.Omega.{arith}
 use Rattle.report.proofs.Spelling.{vector-short}
-use Rattle.report.proofs.Putting.{put-within, put-then}
+use Rattle.pieces.proofs.Putting.{put-within, put-then}
 use Rattle.report.proofs.lines.put_vector.Statement.{statement}
 use Rattle.report.proofs.lines.put_vector.Tie as tie
 

@@ -8,7 +8,7 @@ use Rattle.machine.specs.declared.Pair.{Pair}
 use Rattle.machine.specs.Meaning.Machine.{step}
 use Rattle.machine.specs.Meaning.Tables.{Tables, bothTables, oldMachine, newMachine}
 use Rattle.report.specs.Meaning.Text.{shownLine, shownAt}
-use Rattle.report.specs.Working.Put.{Small}
+use Rattle.report.specs.Working.Tracing.{Small}
 use Rattle.report.proofs.Listing.{Listed, listed-none, listed-more, listed-all}
 use Rattle.report.proofs.steps.put_steps.Statement.{statement}
 use Rattle.report.proofs.steps.put_steps.Tie as tie

@@ -3,10 +3,10 @@ use Prim.Native.Nat.{_+_, _-_, _≤_}
 use native.Mathlib.Omega.{arith}
 use borrow.Author.Needs.{needs}
 use lib.ListN.{length, take}
-use Rattle.report.specs.Working.Put.{Put}
-use Rattle.report.proofs.Putting.{put-none, put-byte, put-whole}
-use Rattle.report.proofs.pieces.put_word.Statement.{statement}
-use Rattle.report.proofs.pieces.put_word.Tie as tie
+use Rattle.pieces.specs.Working.Put.{Put}
+use Rattle.pieces.proofs.Putting.{put-none, put-byte, put-whole}
+use Rattle.pieces.proofs.put_word.Statement.{statement}
+use Rattle.pieces.proofs.put_word.Tie as tie
 
 abbrev Inv-loop : tie.InvT-loop
 Inv-loop word text₀ at i₀ text i = (i ≤ length word) × Put i (take i word) at text₀ text (at + i)

@@ -2,9 +2,9 @@
 use mathlib.Core.Path.{refl}
 use native.Mathlib.Omega.{arith}
 use borrow.Author.Needs.{needs}
-use Rattle.report.proofs.Putting.{put-as, put-then}
-use Rattle.report.proofs.pieces.put_last_field.Statement.{statement}
-use Rattle.report.proofs.pieces.put_last_field.Tie as tie
+use Rattle.pieces.proofs.Putting.{put-as, put-then}
+use Rattle.pieces.proofs.put_last_field.Statement.{statement}
+use Rattle.pieces.proofs.put_last_field.Tie as tie
 
 put-field-requires : tie.Need-put-field-requires
 put-field-requires c κs = search needs

@@ -3,10 +3,10 @@ use mathlib.Core.Path.{ap, _∙_}
 use native.Mathlib.Omega.{arith}
 use borrow.Author.Needs.{needs}
 use lib.ListN.{length}
-use Rattle.report.proofs.Spelling.{spelled-fewest, spelled-short}
-use Rattle.report.proofs.Putting.{put-as}
-use Rattle.report.proofs.pieces.put_number.Statement.{statement}
-use Rattle.report.proofs.pieces.put_number.Tie as tie
+use Rattle.pieces.proofs.Spelling.{spelled-fewest, spelled-short}
+use Rattle.pieces.proofs.Putting.{put-as}
+use Rattle.pieces.proofs.put_number.Statement.{statement}
+use Rattle.pieces.proofs.put_number.Tie as tie
 
 decimal-requires : tie.Need-decimal-requires
 decimal-requires c κs = search needs

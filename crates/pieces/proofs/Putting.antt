@@ -6,8 +6,8 @@ use native.Mathlib.Omega.{arith}
 use native.Mathlib.Numerals.{add-one}
 use lib.ListN.{length, take, getD, set, length-append, length-set}
 use lib.Seq.{take-suc, take-length, take-suc-set}
-use Rattle.report.specs.Meaning.Text.{Printed}
-use Rattle.report.specs.Working.Put.{Put}
+use Rattle.pieces.specs.Meaning.Pieces.{Printed}
+use Rattle.pieces.specs.Working.Put.{Put}
 
 pub put-none : (most at e : ℕ) (text : List ℕ) → e ≡ at → Put most [] at text text e
 put-none most at e text h = record { front = rw h (sym (append-nil (take at text))); ends = omega arith; short = omega arith; size = refl }

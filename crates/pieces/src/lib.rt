@@ -3,8 +3,8 @@ ghost use Prim.Native.Nat.{_+_, _<_, _≤_};
 ghost use mathlib.Core.Path.{_≡_};
 ghost use mathlib.Core.List.{_++_};
 ghost use lib.ListN.{length};
-ghost use Rattle.report.specs.Meaning.Text.{spelled, newline};
-ghost use Rattle.report.specs.Working.Put.{Put};
+ghost use Rattle.pieces.specs.Meaning.Pieces.{spelled, newline};
+ghost use Rattle.pieces.specs.Working.Put.{Put};
 
 pub fn put_word(word: &[u8], text: &mut [u8], at: usize) -> usize
     requires { ⌜ at + length (now word) ≤ length (now text) ⌝ }

@@ -1,8 +1,8 @@
 -- `put_field`: the number stands behind the word.
 use borrow.Author.Needs.{needs}
-use Rattle.report.proofs.Putting.{put-then}
-use Rattle.report.proofs.pieces.put_field.Statement.{statement}
-use Rattle.report.proofs.pieces.put_field.Tie as tie
+use Rattle.pieces.proofs.Putting.{put-then}
+use Rattle.pieces.proofs.put_field.Statement.{statement}
+use Rattle.pieces.proofs.put_field.Tie as tie
 
 put-word-requires : tie.Need-put-word-requires
 put-word-requires c κs = search needs
