@@ -1,0 +1,4 @@
+pub mod Images
+pub mod Outputs
+pub mod Written
+pub mod Determined
