@@ -1,13 +1,14 @@
 -- Laws on the nets of literals, and on which literals are read.
 use Prim.Native.Nat.{ℕ, suc, _+_, _-_, _*_, _/_, _%_, _<_, _≤_}
-use mathlib.Core.Path.{_≡_, refl, sym, _∙_, subst}
-use mathlib.Core.Logic.{⊎-elim}
+use mathlib.Core.Path.{_≡_, refl, sym, _∙_, ap, subst}
+use mathlib.Core.Logic.{_⊎_, inl, inr, ⊎-elim}
 use mathlib.Core.Bool.{Bool, true, false, cond}
 use native.Mathlib.Omega.{arith}
 use native.Mathlib.Decide.{ℕ-discrete, decLt}
 use borrow.Author.Tests.{le-ltb, lt-ltb, eq-eqb, ne-eqb}
 use lib.Dec.{ltb}
 use lib.ListN.{length, getD}
+use Rattle.numbers.proofs.Order.{tri}
 use Rattle.memory.specs.Meaning.Lists.{listOf}
 use Rattle.drawing.specs.declared.Drawing.{Drawing}
 use Rattle.drawing.specs.Meaning.Lists.{has, place}
@@ -17,7 +18,7 @@ use Rattle.drawing.specs.Meaning.Faults.{DrawingFault}
 use Rattle.drawing.specs.Working.Places.{owns, own, readAt, Driven}
 use Rattle.drawing.specs.Working.Wiring.{Spelled}
 use Rattle.drawing.proofs.Lists.{split, has-place, has-entry, has-of, has-at, sift-has, sift-test}
-use Rattle.drawing.proofs.Places.{length-owners, has-owner, place-owner, place-read, driver-of}
+use Rattle.drawing.proofs.Places.{length-owners, has-owner, place-owner, place-read, driver-of, two-drivers}
 
 -- the net of a literal, by cases
 pub net-constant : (d : Drawing) (x : ℕ) → x < 2 → netOf d x ≡ x
@@ -92,3 +93,17 @@ module _ {d : Drawing} (s : Spelled d) (served : DrawingFault d 18 → ⊥) wher
       let v = getD (negated d) i 0 in
       let u = under-driven v (has-entry v (negated d) i h refl) in
       omega (arith, net-even d (2 * v) (u .0) (omega arith), driver d (2 * v) (omega arith) (u .1) .0)
+
+  -- no two own literals are the same, so that each has the net of its place
+  place-own : (p : ℕ) → p < owns d → place (own d p) (owners d) ≡ p
+  place-own p h = let w = place-owner d (own d p) (has-owner d (own d p) p h refl) in go (w .0) (w .1) (tri (place (own d p) (owners d)) p)
+    where
+      go : {q : ℕ} → q < owns d → own d q ≡ own d p → (q < p) ⊎ ((q ≡ p) ⊎ (p < q)) → q ≡ p
+      go {q} l e (inl t) = absurd (served (two-drivers d q p t h e))
+      go l e (inr (inl t)) = t
+      go {q} l e (inr (inr t)) = absurd (served (two-drivers d p q t l (sym e)))
+
+  pub net-own : (p : ℕ) → p < owns d → netOf d (2 * (own d p / 2)) ≡ 2 + p
+  net-own p h =
+      let q : 2 * (own d p / 2) ≡ own d p = omega (arith, s .evens p h) in
+      ap (netOf d) q ∙ net-even d (own d p) (omega (arith, s .evens p h, s .aboves p h)) (s .evens p h) ∙ ap (λ (i : ℕ). 2 + i) (place-own p h)
