@@ -4,3 +4,4 @@ pub mod Slices
 pub mod Filling
 pub mod Tests
 pub mod Lists
+pub mod Computed

@@ -9,13 +9,14 @@ use lib.Dec.{T, eqb, eqb→eq, lit<, lit≤}
 use Rattle.numbers.specs.Meaning.Bits.{horner}
 use Rattle.memory.specs.Meaning.Lists.{listOf}
 use Rattle.memory.specs.Meaning.Refusals.{Lowest}
+use Rattle.memory.proofs.Computed.{every, every-at, and-left, and-right, passes, pass}
 use Rattle.netlist.specs.Meaning.Gates.{truth}
 use Rattle.netlist.specs.Meaning.Loops.{Path}
 use Rattle.netlist.specs.Meaning.Nets.{settled, nextState, outputs}
 use Rattle.image.specs.Meaning.Format.{bitAt, fieldAt, decoded}
 use Rattle.image.specs.Meaning.Faults.{ImageFault}
 use Rattle.sheet.specs.Meaning.Sheet.{imageP, imageQ, imageM, imageH, imageRing, imagePad, Drawn}
-use Rattle.sheet.proofs.Testing.{every, every-at, and-left, and-right, passes, pass, fieldTests, endTests, readsNone, clean-7, clean-9, flat-free}
+use Rattle.sheet.proofs.Testing.{fieldTests, endTests, readsNone, clean-7, clean-9, flat-free}
 
 -- a design of one input, one flip-flop and one output
 module _ (b : List ℕ) (next out : ℕ → ℕ → ℕ) where

@@ -6,5 +6,3 @@ pub mod Carried
 pub mod Sheet
 pub mod Readings
 pub mod Example
-pub mod Texts
-pub mod Drawings

@@ -1,15 +1,16 @@
 -- Images by computed tests: what each number asks is a test of finitely many entries.
-use Prim.Native.Nat.{ℕ, zero, suc, _+_, _-_, _*_, _<_, _≤_}
-use mathlib.Core.Path.{_≡_, sym, subst}
+use Prim.Native.Nat.{ℕ, _+_, _-_, _*_, _<_, _≤_}
+use mathlib.Core.Path.{_≡_, subst}
 use mathlib.Core.Logic.{⊎-elim}
-use mathlib.Core.Bool.{Bool, true, false, _&&_, _||_}
+use mathlib.Core.Bool.{Bool, true, _&&_, _||_}
 use mathlib.Core.List.{List, [], _∷_}
 use native.Mathlib.Omega.{arith}
 use lib.Dec.{T, eqb, eqb→eq, leb, leb→le, ltb, ltb→lt}
 use lib.ListN.{length, getD}
-use Rattle.numbers.proofs.Order.{tri, not-lt}
+use Rattle.numbers.proofs.Order.{not-lt}
 use Rattle.memory.specs.Meaning.Refusals.{Free}
 use Rattle.memory.proofs.Refusals.{Clean, clean-more}
+use Rattle.memory.proofs.Computed.{every, and-left, and-right, or-right, every-at, passes, pass}
 use Rattle.netlist.specs.declared.Design.{Design}
 use Rattle.netlist.specs.Meaning.Limits.{mostInputs, mostLatches, mostOutputs, mostCells}
 use Rattle.netlist.specs.Meaning.Gates.{firstOf, secondOf}
@@ -21,40 +22,6 @@ use Rattle.image.specs.Working.Scanning.{WithinLimits}
 use Rattle.image.proofs.Refusals.{no-3, no-4, no-6, no-7, no-8, clean-4}
 use Rattle.image.proofs.Spelling.{zero-bits}
 use Rattle.image.proofs.Order.{small}
-
--- every number below n passes the test
-abbrev pub every : (ℕ → Bool) → ℕ → Bool
-every f zero = true
-every f (suc n) = f n && every f n
-
-pub and-left : (a b : Bool) → T (a && b) → T a
-and-left true b t = tt
-and-left false b t = t
-
-pub and-right : (a b : Bool) → T (a && b) → T b
-and-right true b t = t
-and-right false b t = absurd t
-
-or-right : (a b : Bool) → T (a || b) → (T a → ⊥) → T b
-or-right true b t n = absurd (n tt)
-or-right false b t n = t
-
-pub every-at : (f : ℕ → Bool) (n i : ℕ) → T (every f n) → i < n → T (f i)
-every-at f zero i t h = absurd (omega arith)
-every-at f (suc n) i t h =
-    ⊎-elim (λ l. every-at f n i (and-right (f n) (every f n) t) l)
-    (λ r. ⊎-elim (λ e. subst (λ (k : ℕ). T (f k)) (sym e) (and-left (f n) (every f n) t)) (λ l. absurd (omega arith)) r)
-    (tri i n)
-
--- every test of a list passes
-abbrev pub passes : List Bool → Bool
-passes [] = true
-passes (b ∷ bs) = b && passes bs
-
-pub pass : (l : List Bool) (i : ℕ) → T (passes l) → T (getD l i true)
-pass [] i t = tt
-pass (b ∷ l) zero t = and-left b (passes l) t
-pass (b ∷ l) (suc i) t = pass l i (and-right b (passes l) t)
 
 -- 1 to 6 find nothing: length and version; sizes and bytes; nets; unread nets
 abbrev pub fieldTests : List ℕ → List Bool

@@ -2,4 +2,3 @@
 pub mod Sheet
 pub mod Readings
 pub mod Example
-pub mod Drawings

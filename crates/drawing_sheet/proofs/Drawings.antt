@@ -20,9 +20,8 @@ use Rattle.lines.specs.Meaning.Spelling.{words, behind, skip, digits, spelled, 
 use Rattle.aiger.specs.Meaning.Format.{aag, drawingIn}
 use Rattle.aiger.specs.Meaning.Faults.{LineFault, TextFault, header}
 use Rattle.pieces.specs.Meaning.Pieces.{bytes}
-use Rattle.sheet.specs.Meaning.Sheet.{imageP, imageQ}
-use Rattle.sheet.specs.Meaning.Drawings.{RefusedBy, DrawnAs, design, Drawings}
-use Rattle.sheet.proofs.Texts.{by-size, by-line, by-drivers, by-loop, by-none}
+use Rattle.drawing_sheet.specs.Meaning.Drawings.{imageP, imageQ, RefusedBy, DrawnAs, design, Drawings}
+use Rattle.drawing_sheet.proofs.Texts.{by-size, by-line, by-drivers, by-loop, by-none}
 
 by-header : (s : String) → TextFault (bytes s) (header 17) → RefusedBy s 17
 by-header s f = record { entry = header 17; first = First.here f; numbered = refl }
@@ -91,7 +90,7 @@ many-ands = by-size (bytes "aag 300 0 0 0 257\n") refl refl tt (TextFault.ands (
 ring : RefusedBy "aag 1 0 0 0 1\n2 3 0\n" 9
 unfolding decoded fieldAt horner bitAt drawn drawingIn listOf has place sift words behind skip digits spelled onward
 ring = by-loop (bytes "aag 1 0 0 0 1\n2 3 0\n") refl refl tt tt tt tt tt 0
-      (Path.more (record { from = lit< tt; to = lit< tt; by = inl refl }) (Path.one {i = 1} (record { from = lit< tt; to = lit< tt; by = inl refl })))
+    (Path.more (record { from = lit< tt; to = lit< tt; by = inl refl }) (Path.one {i = 1} (record { from = lit< tt; to = lit< tt; by = inl refl })))
 
 no-text : RefusedBy "" 17
 unfolding decoded fieldAt horner bitAt drawn drawingIn listOf has place sift words behind skip digits spelled onward

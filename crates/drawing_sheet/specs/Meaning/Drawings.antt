@@ -1,4 +1,5 @@
 -- Drawings in ASCII AIGER: request §1 on texts, a text a sentence.
+--   imageP, imageQ  the images of P and Q of 01's sheet
 --   RefusedBy t n   the text t is turned away by number n
 --   DrawnAs t d     the text t is accepted, and d is the design that it draws
 --   design ..       a design of so many inputs, with the gates, the nets read by flip-flops and the nets shown; blank beyond
@@ -19,7 +20,14 @@ use Rattle.drawing.specs.Meaning.Wires.{drawn}
 use Rattle.aiger.specs.Meaning.Format.{drawingIn}
 use Rattle.aiger.specs.Meaning.Faults.{Part, TextFault, order, numberOf}
 use Rattle.pieces.specs.Meaning.Pieces.{bytes}
-use Rattle.sheet.specs.Meaning.Sheet.{imageP, imageQ}
+
+-- "`11 11 00 00 80 60` (old: the input into a flip-flop, shown)"
+abbrev pub imageP : List ℕ
+imageP = 0x11 ∷ 0x11 ∷ 0x00 ∷ 0x00 ∷ 0x80 ∷ 0x60 ∷ []
+
+-- "`11 11 01 10 10 00 80 C0 00 40 28` (new: an inverter before and after it)"
+abbrev pub imageQ : List ℕ
+imageQ = 0x11 ∷ 0x11 ∷ 0x01 ∷ 0x10 ∷ 0x10 ∷ 0x00 ∷ 0x80 ∷ 0xC0 ∷ 0x00 ∷ 0x40 ∷ 0x28 ∷ []
 
 abbrev pub RefusedBy : String → ℕ → Type 0
 RefusedBy s n = FirstNumber (TextFault (bytes s)) order numberOf n

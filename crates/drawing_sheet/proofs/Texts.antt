@@ -9,6 +9,7 @@ use lib.Dec.{T, T-not, eqb, eqb→eq, eqb-refl, leb, leb→le, ltb, ltb→lt}
 use lib.ListN.{length, getD}
 use Rattle.numbers.proofs.Order.{not-lt}
 use Rattle.memory.specs.Meaning.Orders.{First, FirstNumber}
+use Rattle.memory.proofs.Computed.{every, and-left, and-right, or-split, holds, every-at}
 use Rattle.netlist.specs.declared.Design.{Design}
 use Rattle.netlist.specs.Meaning.Limits.{mostInputs, mostLatches, mostOutputs, mostCells}
 use Rattle.netlist.specs.Meaning.Gates.{firstOf, secondOf}
@@ -30,15 +31,6 @@ use Rattle.lines.specs.Meaning.Spelling.{wordsAt, spelled, value}
 use Rattle.aiger.specs.Meaning.Format.{aag, wordAt, highestIn, inputsIn, latchesIn, outputsIn, andsIn, linesIn, drawingIn}
 use Rattle.aiger.specs.Meaning.Faults.{Counts, Own, Initial, LineFault, kindIn, Part, header, whole, order, numberOf, TextFault}
 use Rattle.aiger.proofs.Determined.{Listed, listed}
-use Rattle.sheet.proofs.Testing.{every, and-left, and-right, every-at}
-
-or-split : (a b : Bool) → T (a || b) → T a ⊎ T b
-or-split true b t = inl t
-or-split false b t = inr t
-
-holds : (b : Bool) → T b → b ≡ false → ⊥
-holds true t e = true≢false e
-holds false t e = t
 
 -- the header line
 pub no-header-17 : (t : List ℕ) → wordAt t 0 0 ≡ aag → length (wordsAt t 0) ≡ 6 → T (every (λ k. spelled (wordAt t 0 (suc k))) 5) → TextFault t (header 17) → ⊥
