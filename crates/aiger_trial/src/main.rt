@@ -12,7 +12,7 @@ use writer::Written;
 // The most bytes of all questions, and of one text.
 const QUESTIONS: usize = 200000;
 
-const TEXT: usize = 20000;
+const TEXT: usize = 5000;
 
 fn main() {
     let mut all = [0u8; QUESTIONS];
@@ -56,7 +56,7 @@ fn ask(line: &[u8]) {
     if !spelled.fine {
         io::write_all(
             1,
-            b"NO QUESTION: a line is NAME:TEXT, at most 20000 bytes, a backslash only in \\n \\t \\r \\\\ \\xHH\n\n",
+            b"NO QUESTION: a line is NAME:TEXT, at most 5000 bytes, a backslash only in \\n \\t \\r \\\\ \\xHH\n\n",
         );
         return;
     }
