@@ -499,7 +499,7 @@ def limits():
     yield 9, "256 ANDs, two in a ring", row_of(256, 0, {1: [6, 8, 1]})
     yield 3, "256 ANDs and 1 NOT, two in a ring", row_of(256, 1, {1: [6, 8, 1]})
     yield 18, "256 ANDs and 1 NOT, no driver", row_of(256, 1, {1: [6, 1022, 1]})
-    yield 18, "256 ANDs and 1 NOT, two drivers", row_of(256, 1, {1: [4, 1, 1]})
+    yield 18, "256 ANDs and 1 NOT, two drivers", row_of(256, 1, {255: [4, 513, 1]})
     yield 17, "256 ANDs and 1 NOT, the last line too short", row_of(256, 1, {255: [514, 513]})
     # Every size of document 01 at its limit: 243 ANDs and a NOT for each input and flip-flop, the last of them shown.
     yield "ok", "every size at its limit", written(
@@ -553,7 +553,7 @@ def damage_numbers(draw, rows, most):
 
 def damage_bytes(draw, text):
     """Takes a byte out, puts one in, or changes one; or takes a line out, or doubles one."""
-    at, byte = draw.below(len(text)), bytes([draw.one_of(b"0123456789 \n\t\r-x")])
+    at, byte = draw.below(len(text) + 1), bytes([draw.one_of(b"0123456789 \n\t\r-x")])
     lines = text.split(b"\n")
     line = draw.below(len(lines))
     return draw.one_of((
