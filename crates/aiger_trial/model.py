@@ -130,7 +130,7 @@ def image_step(data, state, vector):
     cells = [(field(3), field(9), field(9)) for _ in range(count)]
     data_nets = [field(9) for _ in range(latches)]
     shown_nets = [field(9) for _ in range(outputs)]
-    assert version == 1 and len(bits) - at < 8 and "1" not in bits[at:]
+    assert (version, inputs, latches) == (1, len(vector), len(state)) and len(bits) - at < 8 and "1" not in bits[at:]
     values = [0, 1] + vector + state + [None] * count
 
     def value(net):
@@ -412,7 +412,7 @@ ok text behind the header:aag 0 0 0 0 0\nrubbish
 17 ANDs before the outputs:aag 2 1 0 1 1\n2\n4 2 2\n4\n
 """
 
-# One line of each kind as it should be, the header before it, and which of its numbers are read or own.
+# For each kind of line: a header that asks for one, the line as it should be, and what its numbers are.
 KINDS = {
     "input": (b"aag 3 1 0 0 0", b"2", ["own literal"]),
     "flip-flop": (b"aag 3 0 1 0 0", b"2 1 0", ["own literal", "next", "initial value"]),
@@ -441,8 +441,13 @@ DAMAGES = {
     "of a letter": lambda line: b"x\n",
 }
 
-# Numbers that a narrow counter would take for a small one, and long ones.
+# What is added to a number so that a narrow counter would take it for a small one; the last two have 20 and 60 digits.
 LARGE = [1024, 2 ** 16, 2 ** 32, 2 ** 64, 10 ** 19, 10 ** 59]
+
+
+def written(rows):
+    """The text of a drawing with these numbers, those of the header first."""
+    return b"aag " + b"".join(b" ".join(b"%d" % word for word in row) + b"\n" for row in rows)
 
 
 def spellings():
@@ -465,17 +470,12 @@ def spellings():
 
 
 def headers():
-    """Every size far over its limit."""
+    """A drawing with a line of each kind, and every size in turn far over its limit."""
     for place, name in enumerate("MILOA"):
         for large in LARGE:
-            sizes = [0] * 5
-            sizes[place] = large
-            yield 3, f"{name} {large}", b"aag %d %d %d %d %d\n" % tuple(sizes)
-
-
-def written(rows):
-    """The text of a drawing with these numbers, those of the header first."""
-    return b"aag " + b"".join(b" ".join(b"%d" % word for word in row) + b"\n" for row in rows)
+            sizes = [3, 1, 1, 1, 1]
+            sizes[place] += large
+            yield 3, f"{name} {sizes[place]}", written([sizes, [2], [4, 6], [6], [6, 4, 2]])
 
 
 def row_of(ands, nots, other={}):
@@ -588,11 +588,10 @@ def main():
     def ask(expected, name, text):
         said = answer(text, draw)
         kind = said if said.startswith("REFUSED") else "ok"
-        assert str(expected) in (kind, kind[8:], said.replace(" ", ""), "any"), (expected, name, said)
+        assert str(expected) in (kind.replace("REFUSED ", ""), said.replace(" ", ""), "any"), (expected, name, said)
         kinds[kind] += 1
-        line = name.encode() + b":" + escaped(text)
         assert name not in questions and ":" not in name, name
-        questions[name] = line, name.encode() + b"\n" + said.encode()
+        questions[name] = name.encode() + b":" + escaped(text), name.encode() + b"\n" + said.encode()
 
     for part in by_hand(), spellings(), headers(), limits():
         for question in part:
