@@ -1,0 +1,81 @@
+-- `decode`: a turn a byte.
+use Prim.Native.Nat.{ℕ, _≤_, _<_, _+_, _-_}
+use mathlib.Core.List.{List}
+use mathlib.Core.Path.{_≡_, refl, _∙_}
+use native.Mathlib.Omega.{arith}
+use borrow.Author.Needs.{needs}
+use lib.ListN.{length, set, length-set}
+use Rattle.aiger_trial.proofs.escapes.decode.Statement.{statement}
+use Rattle.aiger_trial.proofs.escapes.decode.Tie as tie
+
+-- The first n bytes are written.
+record Written (n : ℕ) (l₀ l : List ℕ) : Type 0 where
+  size : length l ≡ length l₀
+  fits : n ≤ length l
+
+written-more : {n : ℕ} {l₀ l : List ℕ} (x : ℕ) → n < length l → Written n l₀ l → Written (n + 1) l₀ (set l n x)
+written-more {n} {l₀} {l} x h w = record {
+  size = length-set l n x ∙ w .size;
+  fits = omega (arith, length-set l n x, h);
+}
+
+abbrev Inv-loop : tie.InvT-loop
+Inv-loop spelled text₀ n₀ at₀ text n at = Written n text₀ text
+
+abbrev μ-loop : tie.MeasureT-loop
+μ-loop spelled text₀ n₀ at₀ text n at = length spelled - at
+
+loop-holds : tie.Need-loop-holds Inv-loop μ-loop
+loop-holds c = record { size = refl; fits = omega arith }
+
+byte-at-requires : tie.Need-byte-at-requires Inv-loop μ-loop
+byte-at-requires c κs = search needs
+
+same-length : tie.Need-same-length Inv-loop μ-loop
+same-length c = search needs
+
+returns : tie.Need-returns Inv-loop μ-loop
+returns c = search needs
+
+same-length-2 : tie.Need-same-length-2 Inv-loop μ-loop
+same-length-2 c = search needs
+
+returns-2 : tie.Need-returns-2 Inv-loop μ-loop
+returns-2 c = search needs
+
+slice-write-text : tie.Need-slice-write-text Inv-loop μ-loop
+slice-write-text c = search needs
+
+add-n : tie.Need-add-n Inv-loop μ-loop
+add-n c = search needs
+
+loop-less : tie.Need-loop-less Inv-loop μ-loop
+loop-less c = search needs
+
+loop-again : tie.Need-loop-again Inv-loop μ-loop
+loop-again c = written-more {l = c .before .before .before .before .before .loop .text} _ (search needs) (search needs)
+
+same-length-3 : tie.Need-same-length-3 Inv-loop μ-loop
+same-length-3 c = search needs
+
+returns-3 : tie.Need-returns-3 Inv-loop μ-loop
+returns-3 c = search needs
+
+pub decode-spec : {M : Type 1} → statement M
+decode-spec =
+    tie.close
+    (tie.spec
+    Inv-loop
+    μ-loop
+    loop-holds
+    byte-at-requires
+    same-length
+    returns
+    same-length-2
+    returns-2
+    slice-write-text
+    add-n
+    loop-less
+    loop-again
+    same-length-3
+    returns-3)
