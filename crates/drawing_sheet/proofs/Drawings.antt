@@ -9,7 +9,7 @@ use lib.Dec.{lit<, lit≤, eqb→eq}
 use lib.ListN.{getD}
 use Rattle.numbers.specs.Meaning.Bits.{horner}
 use Rattle.memory.specs.Meaning.Lists.{listOf}
-use Rattle.memory.specs.Meaning.Orders.{First}
+use Rattle.memory.specs.Meaning.Orders.{FirstIn}
 use Rattle.netlist.specs.declared.Gate.the-variants.{Not, And}
 use Rattle.netlist.specs.Meaning.Loops.{Path}
 use Rattle.image.specs.Meaning.Format.{bitAt, fieldAt, decoded}
@@ -24,7 +24,7 @@ use Rattle.drawing_sheet.specs.Meaning.Drawings.{imageP, imageQ, Refused
 use Rattle.drawing_sheet.proofs.Texts.{by-size, by-line, by-drivers, by-loop, by-none}
 
 by-header : (s : String) → TextFault (bytes s) (header 17) → RefusedBy s 17
-by-header s f = record { entry = header 17; first = First.here f; numbered = refl }
+by-header s f = record { entry = header 17; first = FirstIn.here f; numbered = refl }
 
 -- the initial value 4 is neither 0, 1 nor 2
 other-initial : (4 ≤ 1) ⊎ (_≡_ {A = ℕ} 4 2) → ⊥

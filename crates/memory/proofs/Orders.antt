@@ -2,21 +2,21 @@
 use Prim.Native.Nat.{ℕ}
 use mathlib.Core.Path.{_≡_, refl, sym, _∙_, ap}
 use mathlib.Core.List.{List}
-use Rattle.memory.specs.Meaning.Orders.{First, FirstNumber}
+use Rattle.memory.specs.Meaning.Orders.{FirstIn, FirstNumber}
 
-pub first-applies : {K : Type 0} {P : K → Type 0} {ks : List K} {k : K} → First P ks k → P k
-first-applies (First.here p) = p
-first-applies (First.later n f) = first-applies f
+pub entry-applies : {K : Type 0} {P : K → Type 0} {ks : List K} {k : K} → FirstIn P ks k → P k
+entry-applies (FirstIn.here p) = p
+entry-applies (FirstIn.later n f) = entry-applies f
 
-pub first-unique : {K : Type 0} {P : K → Type 0} {ks : List K} {j k : K} → First P ks j → First P ks k → j ≡ k
-first-unique (First.here p) (First.here q) = refl
-first-unique (First.here p) (First.later n g) = absurd (n p)
-first-unique (First.later n f) (First.here q) = absurd (n q)
-first-unique (First.later n f) (First.later m g) = first-unique f g
+pub entry-unique : {K : Type 0} {P : K → Type 0} {ks : List K} {j k : K} → FirstIn P ks j → FirstIn P ks k → j ≡ k
+entry-unique (FirstIn.here p) (FirstIn.here q) = refl
+entry-unique (FirstIn.here p) (FirstIn.later n g) = absurd (n p)
+entry-unique (FirstIn.later n f) (FirstIn.here q) = absurd (n q)
+entry-unique (FirstIn.later n f) (FirstIn.later m g) = entry-unique f g
 
 pub number-unique : {K : Type 0} {P : K → Type 0} {ks : List K} {number : K → ℕ} {n m : ℕ} → FirstNumber P ks number n → FirstNumber P ks number m → n ≡ m
-number-unique {number = number} p q = p .numbered ∙ ap number (first-unique (p .first) (q .first)) ∙ sym (q .numbered)
+number-unique {number = number} p q = p .numbered ∙ ap number (entry-unique (p .first) (q .first)) ∙ sym (q .numbered)
 
 -- where something applies, its number is refused, and not answered
 pub never-free : {K : Type 0} {P : K → Type 0} {ks : List K} {number : K → ℕ} {n : ℕ} → FirstNumber P ks number n → ((k : K) → P k → ⊥) → ⊥
-never-free p f = f (p .entry) (first-applies (p .first))
+never-free p f = f (p .entry) (entry-applies (p .first))

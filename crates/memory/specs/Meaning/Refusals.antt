@@ -1,4 +1,4 @@
--- Who is turned away: what every call that answers or refuses promises.
+-- Who is turned away: what a call that answers or refuses promises, where the lowest number comes first. Orders has the others.
 --   Free P             no number applies
 --   Lowest P n         n applies, and no lower number does
 --   LowestOrNone P n   n is the lowest number that applies, or 0 where none does
