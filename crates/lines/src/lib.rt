@@ -28,60 +28,48 @@ pub fn scan(text: &[u8], at: usize, most: u16) -> Row
     if a.value > most {
         return no_row();
     }
-    if a.stop == 10 {
-        return Row {
-            count: 1,
-            first: a.value,
-            second: 0,
-            third: 0,
-            end: a.end,
-        };
+    if a.stop == b'\n' {
+        return row_of(1, a.value, 0, 0, a.end);
     }
-    if a.stop != 32 {
+    if a.stop != b' ' {
         return no_row();
     }
     let b = take(text, a.end);
     if b.value > most {
         return no_row();
     }
-    if b.stop == 10 {
-        return Row {
-            count: 2,
-            first: a.value,
-            second: b.value,
-            third: 0,
-            end: b.end,
-        };
+    if b.stop == b'\n' {
+        return row_of(2, a.value, b.value, 0, b.end);
     }
-    if b.stop != 32 {
+    if b.stop != b' ' {
         return no_row();
     }
     let c = take(text, b.end);
     if c.value > most {
         return no_row();
     }
-    if c.stop != 10 {
+    if c.stop != b'\n' {
         return no_row();
     }
+    row_of(3, a.value, b.value, c.value, c.end)
+}
+
+fn row_of(count: usize, first: u16, second: u16, third: u16, end: usize) -> Row
+    ensures { λ r. ⌜ (r .count ≡ count) × (r .first ≡ first) × (r .second ≡ second) × (r .third ≡ third) × (r .end ≡ end) ⌝ }
+{
     Row {
-        count: 3,
-        first: a.value,
-        second: b.value,
-        third: c.value,
-        end: c.end,
+        count,
+        first,
+        second,
+        third,
+        end,
     }
 }
 
 fn no_row() -> Row
     ensures { λ r. ⌜ (r .count ≡ 0) × (r .end ≡ 0) ⌝ }
 {
-    Row {
-        count: 0,
-        first: 0,
-        second: 0,
-        third: 0,
-        end: 0,
-    }
+    row_of(0, 0, 0, 0, 0)
 }
 
 // A number, the byte behind it, and the place behind that byte.
@@ -104,14 +92,14 @@ pub fn take(text: &[u8], at: usize) -> Taken
     if end == at {
         return none();
     }
-    if text[at] == 48 {
+    if text[at] == b'0' {
         if end > at + 1 {
             return none();
         }
     }
     let stop = text[end];
-    if stop != 10 {
-        if stop != 32 {
+    if stop != b'\n' {
+        if stop != b' ' {
             return none();
         }
     }
@@ -150,7 +138,7 @@ fn digits(text: &[u8], at: usize) -> Run
             return Run { value: n, end: i };
         }
         if n < CAP {
-            n = n * 10 + wide(c - 48);
+            n = n * 10 + wide(c - b'0');
         }
         i += 1;
     }

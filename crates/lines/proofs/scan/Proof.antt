@@ -18,11 +18,15 @@ returns c =
     let a = rowed-none (c .before .before .before .before .before .args .most) (drop (c .before .before .before .before .before .args .at) (c .before .before .before .before .before .args .text .now)) in
     (no-row (c .no-row .ensures .0) (rowed-over a (c .before .before .before .take .ensures .0) (c .before .before .before .before .before .pre .1) (omega arith)), omega (arith, c .no-row .ensures .1))
 
+row-of-requires : tie.Need-row-of-requires
+row-of-requires c κs = search needs
+
 returns-2 : tie.Need-returns-2
 returns-2 c =
-    let a = rowed-none (c .before .before .before .before .before .before .args .most) (drop (c .before .before .before .before .before .before .args .at) (c .before .before .before .before .before .before .args .text .now)) in
-    let e = rowed-ends a (c .before .before .before .before .take .ensures .0) (c .before .before .before .before .before .before .pre .1) (omega arith) (c .if2 .taken) in
-    (row-one (e .0) (e .1) (e .2) (e .3) (e .4), c .before .before .before .before .take .ensures .1)
+    let a = rowed-none (c .before .before .before .before .before .before .before .args .most) (drop (c .before .before .before .before .before .before .before .args .at) (c .before .before .before .before .before .before .before .args .text .now)) in
+    let e = rowed-ends a (c .before .before .before .before .before .take .ensures .0) (c .before .before .before .before .before .before .before .pre .1) (omega arith) (c .before .if2 .taken) in
+    let q = c .row-of .ensures in
+    rw (q .0, q .1, q .2, q .3, q .4) (row-one (e .0) (e .1) (e .2) (e .3) (e .4), c .before .before .before .before .before .take .ensures .1)
 
 no-row-requires-2 : tie.Need-no-row-requires-2
 no-row-requires-2 c κs = search needs
@@ -44,12 +48,16 @@ returns-4 c =
     let b = rowed-more a (c .before .before .before .before .before .before .before .before .before .before .take .ensures .0) (c .before .before .before .before .before .before .before .before .before .before .before .before .pre .1) (omega arith) (c .before .before .before .before .if3 .left) in
     (no-row (c .no-row3 .ensures .0) (rowed-over (b .1) (c .before .before .before .take2 .ensures .0) (c .before .before .before .before .before .before .before .before .before .before .before .before .pre .1) (omega arith)), omega (arith, c .no-row3 .ensures .1))
 
+row-of-requires-2 : tie.Need-row-of-requires-2
+row-of-requires-2 c κs = search needs
+
 returns-5 : tie.Need-returns-5
 returns-5 c =
-    let a = rowed-none (c .before .before .before .before .before .before .before .before .before .before .before .before .before .args .most) (drop (c .before .before .before .before .before .before .before .before .before .before .before .before .before .args .at) (c .before .before .before .before .before .before .before .before .before .before .before .before .before .args .text .now)) in
-    let b = rowed-more a (c .before .before .before .before .before .before .before .before .before .before .before .take .ensures .0) (c .before .before .before .before .before .before .before .before .before .before .before .before .before .pre .1) (omega arith) (c .before .before .before .before .before .if3 .left) in
-    let e = rowed-ends (b .1) (c .before .before .before .before .take2 .ensures .0) (c .before .before .before .before .before .before .before .before .before .before .before .before .before .pre .1) (omega arith) (c .if5 .taken) in
-    (row-two (b .0) (e .0) (e .1) (e .2) (b .2) (e .3) (e .4), c .before .before .before .before .take2 .ensures .1)
+    let a = rowed-none (c .before .before .before .before .before .before .before .before .before .before .before .before .before .before .args .most) (drop (c .before .before .before .before .before .before .before .before .before .before .before .before .before .before .args .at) (c .before .before .before .before .before .before .before .before .before .before .before .before .before .before .args .text .now)) in
+    let b = rowed-more a (c .before .before .before .before .before .before .before .before .before .before .before .before .take .ensures .0) (c .before .before .before .before .before .before .before .before .before .before .before .before .before .before .pre .1) (omega arith) (c .before .before .before .before .before .before .if3 .left) in
+    let e = rowed-ends (b .1) (c .before .before .before .before .before .take2 .ensures .0) (c .before .before .before .before .before .before .before .before .before .before .before .before .before .before .pre .1) (omega arith) (c .before .if5 .taken) in
+    let q = c .row-of2 .ensures in
+    rw (q .0, q .1, q .2, q .3, q .4) (row-two (b .0) (e .0) (e .1) (e .2) (b .2) (e .3) (e .4), c .before .before .before .before .before .take2 .ensures .1)
 
 no-row-requires-4 : tie.Need-no-row-requires-4
 no-row-requires-4 c κs = search needs
@@ -83,13 +91,17 @@ returns-8 c =
     let d = rowed-more (b .1) (c .before .before .before .before .before .before .before .before .before .before .before .before .take2 .ensures .0) (c .before .before .before .before .before .before .before .before .before .before .before .before .before .before .before .before .before .before .before .before .before .pre .1) (omega arith) (c .before .before .before .before .before .before .if6 .left) in
     (no-row (c .no-row6 .ensures .0) (rowed-long (d .1) (c .before .before .before .before .before .take3 .ensures .0) (c .before .before .before .before .before .before .before .before .before .before .before .before .before .before .before .before .before .before .before .before .before .pre .1) refl (omega arith) (c .before .if8 .taken)), omega (arith, c .no-row6 .ensures .1))
 
+row-of-requires-3 : tie.Need-row-of-requires-3
+row-of-requires-3 c κs = search needs
+
 returns-9 : tie.Need-returns-9
 returns-9 c =
-    let a = rowed-none (c .before .before .before .before .before .before .before .before .before .before .before .before .before .before .before .before .before .before .before .before .args .most) (drop (c .before .before .before .before .before .before .before .before .before .before .before .before .before .before .before .before .before .before .before .before .args .at) (c .before .before .before .before .before .before .before .before .before .before .before .before .before .before .before .before .before .before .before .before .args .text .now)) in
-    let b = rowed-more a (c .before .before .before .before .before .before .before .before .before .before .before .before .before .before .before .before .before .before .take .ensures .0) (c .before .before .before .before .before .before .before .before .before .before .before .before .before .before .before .before .before .before .before .before .pre .1) (omega arith) (c .before .before .before .before .before .before .before .before .before .before .before .before .if3 .left) in
-    let d = rowed-more (b .1) (c .before .before .before .before .before .before .before .before .before .before .before .take2 .ensures .0) (c .before .before .before .before .before .before .before .before .before .before .before .before .before .before .before .before .before .before .before .before .pre .1) (omega arith) (c .before .before .before .before .before .if6 .left) in
-    let e = rowed-ends (d .1) (c .before .before .before .before .take3 .ensures .0) (c .before .before .before .before .before .before .before .before .before .before .before .before .before .before .before .before .before .before .before .before .pre .1) (omega arith) (c .if8 .left) in
-    (row-three (b .0) (d .0) (e .0) (e .1) (e .2) (b .2) (d .2) (e .3) (e .4), c .before .before .before .before .take3 .ensures .1)
+    let a = rowed-none (c .before .before .before .before .before .before .before .before .before .before .before .before .before .before .before .before .before .before .before .before .before .args .most) (drop (c .before .before .before .before .before .before .before .before .before .before .before .before .before .before .before .before .before .before .before .before .before .args .at) (c .before .before .before .before .before .before .before .before .before .before .before .before .before .before .before .before .before .before .before .before .before .args .text .now)) in
+    let b = rowed-more a (c .before .before .before .before .before .before .before .before .before .before .before .before .before .before .before .before .before .before .before .take .ensures .0) (c .before .before .before .before .before .before .before .before .before .before .before .before .before .before .before .before .before .before .before .before .before .pre .1) (omega (arith, c .before .before .before .before .before .before .before .before .before .before .before .before .before .before .before .before .before .if1 .left)) (c .before .before .before .before .before .before .before .before .before .before .before .before .before .if3 .left) in
+    let d = rowed-more (b .1) (c .before .before .before .before .before .before .before .before .before .before .before .before .take2 .ensures .0) (c .before .before .before .before .before .before .before .before .before .before .before .before .before .before .before .before .before .before .before .before .before .pre .1) (omega (arith, c .before .before .before .before .before .before .before .before .before .before .if4 .left)) (c .before .before .before .before .before .before .if6 .left) in
+    let e = rowed-ends (d .1) (c .before .before .before .before .before .take3 .ensures .0) (c .before .before .before .before .before .before .before .before .before .before .before .before .before .before .before .before .before .before .before .before .before .pre .1) (omega (arith, c .before .before .before .if7 .left)) (c .before .if8 .left) in
+    let q = c .row-of3 .ensures in
+    rw (q .0, q .1, q .2, q .3, q .4) (row-three (b .0) (d .0) (e .0) (e .1) (e .2) (b .2) (d .2) (e .3) (e .4), c .before .before .before .before .before .take3 .ensures .1)
 
 pub scan-spec : {M : Type 1} → statement M
 scan-spec =
@@ -98,12 +110,14 @@ scan-spec =
     take-requires
     no-row-requires
     returns
+    row-of-requires
     returns-2
     no-row-requires-2
     returns-3
     take-requires-2
     no-row-requires-3
     returns-4
+    row-of-requires-2
     returns-5
     no-row-requires-4
     returns-6
@@ -112,4 +126,5 @@ scan-spec =
     returns-7
     no-row-requires-6
     returns-8
+    row-of-requires-3
     returns-9)
