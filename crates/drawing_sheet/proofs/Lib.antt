@@ -5,3 +5,4 @@ pub mod Rows
 pub mod Shapes
 pub mod Places
 pub mod Writing
+pub mod Rewriting

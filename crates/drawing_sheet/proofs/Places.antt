@@ -19,13 +19,13 @@ use Rattle.drawing_sheet.proofs.Shapes.{used, one-held, three-held, fin
 
 -- the kind of a line by its place
 module _ (i l o j : ℕ) where
-  kind-input : j < i → kindAt i l o j ≡ Input
+  pub kind-input : j < i → kindAt i l o j ≡ Input
   kind-input h = simp (lt-ltb j i h)
 
-  kind-latch : i ≤ j → j < i + l → kindAt i l o j ≡ Latch
+  pub kind-latch : i ≤ j → j < i + l → kindAt i l o j ≡ Latch
   kind-latch g h = simp (le-ltb j i g, lt-ltb j (i + l) h)
 
-  kind-output : i + l ≤ j → j < i + l + o → kindAt i l o j ≡ Output
+  pub kind-output : i + l ≤ j → j < i + l + o → kindAt i l o j ≡ Output
   kind-output g h = simp (le-ltb j i (omega arith), le-ltb j (i + l) g, lt-ltb j (i + l + o) h)
 
   kind-and : i + l + o ≤ j → kindAt i l o j ≡ And
