@@ -8,13 +8,10 @@ use native.Mathlib.Nat.{pow-suc}
 use borrow.Author.Tests.{lt-ltb}
 use Rattle.io.specs.Digits.{glyph, digits as decimals, Fewest}
 use Rattle.pieces.specs.Meaning.Pieces.{places, spelled as decimal}
-use Rattle.pieces.proofs.Spelling.{places-fewest}
+use Rattle.pieces.proofs.Spelling.{less-one, places-fewest}
 use Rattle.lines.specs.Meaning.Spelling.{digit, digits, spelled, onward, value}
 use Rattle.lines.proofs.Scanning.{digit-of}
 use Rattle.lines.proofs.Fields.{spelled-one, spelled-more}
-
-less-one : (k : ℕ) → suc k - 1 ≡ k
-less-one k = omega arith
 
 -- the last digit as a byte
 figure : (n : ℕ) → glyph (n % 10) ≡ 48 + n % 10

@@ -7,7 +7,7 @@ use native.Mathlib.Omega.{arith}
 use lib.ListN.{length, getD}
 use Rattle.lines.specs.Meaning.Spelling.{words, behind, skip, cut, grow, digits, spelled, onward, value}
 use Rattle.lines.specs.Working.Scanning.{graft}
-use Rattle.lines.proofs.Scanning.{digit-low, words-digit, words-feed, words-space, behind-byte, behind-feed}
+use Rattle.lines.proofs.Scanning.{digit-low, grow-graft, graft-none, words-digit, words-feed, words-space, behind-byte, behind-feed}
 use Rattle.pieces.specs.Meaning.Pieces.{spelled as decimal}
 use Rattle.drawing_sheet.specs.Meaning.Writing.{rest, row, rows}
 use Rattle.drawing_sheet.proofs.Numerals.{digits-cons, decimal-digits, decimal-spelled, decimal-value}
@@ -28,14 +28,6 @@ spell-spelled (n ∷ ns) zero h = decimal-spelled n
 spell-spelled (n ∷ ns) (suc i) h = spell-spelled ns i (omega arith)
 
 -- digits before a text are bytes of its first word
-grow-graft : (x : ℕ) (w : List ℕ) (ws : List (List ℕ)) → grow x (graft w ws) ≡ graft (x ∷ w) ws
-grow-graft x w [] = refl
-grow-graft x w (v ∷ vs) = refl
-
-graft-none : (ws : List (List ℕ)) → ws ≡ graft [] ws
-graft-none [] = refl
-graft-none (v ∷ vs) = refl
-
 module _ (s : List ℕ) where
   words-digits : (w : List ℕ) → digits w ≡ true → words (w ++ s) ≡ graft w (words s)
   words-digits [] e = graft-none (words s)

@@ -84,11 +84,11 @@ unfolding behind
 behind-feed s = refl
 
 -- the first word of a line begins with the digits at its front
-grow-graft : (x : ℕ) (w : List ℕ) (ws : List (List ℕ)) → grow x (graft w ws) ≡ graft (x ∷ w) ws
+pub grow-graft : (x : ℕ) (w : List ℕ) (ws : List (List ℕ)) → grow x (graft w ws) ≡ graft (x ∷ w) ws
 grow-graft x w [] = refl
 grow-graft x w (v ∷ vs) = refl
 
-graft-none : (ws : List (List ℕ)) → ws ≡ graft [] ws
+pub graft-none : (ws : List (List ℕ)) → ws ≡ graft [] ws
 graft-none [] = refl
 graft-none (v ∷ vs) = refl
 

@@ -9,7 +9,7 @@ use lib.ListN.{length, length-append}
 use Rattle.io.specs.Digits.{digits, Fewest}
 use Rattle.pieces.specs.Meaning.Pieces.{placesIn, places, spelled}
 
-less-one : (k : ℕ) → suc k - 1 ≡ k
+pub less-one : (k : ℕ) → suc k - 1 ≡ k
 less-one k = omega arith
 
 -- one digit more holds ten times as much
