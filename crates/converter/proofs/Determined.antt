@@ -1,6 +1,6 @@
 -- No two outputs meet one promise.
 use Prim.Native.Nat.{ℕ}
-use mathlib.Core.Path.{_≡_, sym, _∙_, ap}
+use mathlib.Core.Path.{_≡_, refl, sym, _∙_, ap}
 use mathlib.Core.List.{List}
 use native.Mathlib.Omega.{arith}
 use lib.ListN.{length, take}
@@ -12,18 +12,18 @@ use Rattle.writer.proofs.RoundTrip.{AreBytes, front-bytes}
 use Rattle.pieces.specs.Meaning.Pieces.{lastField}
 use Rattle.converter.specs.Meaning.Output.{Outputs, Converts}
 
-pub one-output : (t a b : List ℕ) → AreBytes a → AreBytes b → Outputs t a → Outputs t b → a ≡ b
-one-output t a b x y (Outputs.long h e) (Outputs.long k f) = e ∙ sym f
-one-output t a b x y (Outputs.long h e) (Outputs.image k f g) = absurd (omega arith)
-one-output t a b x y (Outputs.long h e) (Outputs.refused k n f g) = absurd (omega arith)
-one-output t a b x y (Outputs.image h p e) (Outputs.long k f) = absurd (omega arith)
-one-output t a b x y (Outputs.image h p e) (Outputs.image k q f) = one-image (drawn (drawingIn t)) a b e f x y
-one-output t a b x y (Outputs.image h p e) (Outputs.refused k n f g) = absurd (never-free f p)
-one-output t a b x y (Outputs.refused h m p e) (Outputs.long k f) = absurd (omega arith)
-one-output t a b x y (Outputs.refused h m p e) (Outputs.image k q f) = absurd (never-free p q)
-one-output t a b x y (Outputs.refused h m p e) (Outputs.refused k n q f) = e ∙ ap (lastField "REFUSED ") (number-unique p q) ∙ sym f
+pub one-output : (t a b : List ℕ) (k l : ℕ) → AreBytes a → AreBytes b → Outputs t a k → Outputs t b l → (k ≡ l) × (a ≡ b)
+one-output t a b k l x y (Outputs.long h e) (Outputs.long i f) = (refl, e ∙ sym f)
+one-output t a b k l x y (Outputs.long h e) (Outputs.image i f g) = absurd (omega arith)
+one-output t a b k l x y (Outputs.long h e) (Outputs.refused i n f g) = absurd (omega arith)
+one-output t a b k l x y (Outputs.image h p e) (Outputs.long i f) = absurd (omega arith)
+one-output t a b k l x y (Outputs.image h p e) (Outputs.image i q f) = (refl, one-image (drawn (drawingIn t)) a b e f x y)
+one-output t a b k l x y (Outputs.image h p e) (Outputs.refused i n f g) = absurd (never-free f p)
+one-output t a b k l x y (Outputs.refused h m p e) (Outputs.long i f) = absurd (omega arith)
+one-output t a b k l x y (Outputs.refused h m p e) (Outputs.image i q f) = absurd (never-free p q)
+one-output t a b k l x y (Outputs.refused h m p e) (Outputs.refused i n q f) = (refl, e ∙ ap (lastField "REFUSED ") (number-unique p q) ∙ sym f)
 
-pub one-conversion : (t a b : List ℕ) (r s : ℕ) → AreBytes a → AreBytes b → Converts t a r → Converts t b s → (r ≡ s) × (take r a ≡ take s b)
-one-conversion t a b r s x y p q =
-    let e = one-output t (take r a) (take s b) (front-bytes r a x) (front-bytes s b y) (p .outputs) (q .outputs) in
-    (omega (arith, p .counts .1, q .counts .1, ap length e), e)
+pub one-conversion : (t a b : List ℕ) (k l r s : ℕ) → AreBytes a → AreBytes b → Converts t a k r → Converts t b l s → (k ≡ l) × (r ≡ s) × (take r a ≡ take s b)
+one-conversion t a b k l r s x y p q =
+    let e = one-output t (take r a) (take s b) k l (front-bytes r a x) (front-bytes s b y) (p .outputs) (q .outputs) in
+    (e .0, omega (arith, p .counts .1, q .counts .1, ap length (e .1)), e .1)

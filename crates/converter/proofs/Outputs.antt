@@ -12,11 +12,11 @@ use Rattle.image.specs.declared.Reading.{Reading}
 use Rattle.aiger.specs.Meaning.Reading.{ReadsDrawing}
 use Rattle.aiger.proofs.Accepted.{text-accepted}
 use Rattle.pieces.specs.Meaning.Pieces.{lastField, Printed}
-use Rattle.converter.specs.Meaning.Output.{mostText, Outputs, Converts}
+use Rattle.converter.specs.Meaning.Output.{mostText, longMessage, Outputs, Converts}
 use Rattle.converter.specs.Working.Images.{HoldsWhole}
 
-pub turned-away : {t out : List ℕ} → mostText < length t → Converts t out 0
-turned-away h = record { outputs = Outputs.long h refl; counts = (omega arith, refl) }
+pub turned-away : {t out : List ℕ} {k : ℕ} → mostText < length t → Printed longMessage out k → Converts t out 2 k
+turned-away h p = record { outputs = Outputs.long h (p .is); counts = p .counts }
 
 -- the answer that was taken apart, with the design beside it
 as-read : {t : List ℕ} {r : Reading} {a : Answer} → r .answer ≡ a → ReadsDrawing t r → ReadsDrawing t (record { answer = a; design = r .design })
@@ -27,10 +27,10 @@ module _ {t : List ℕ} {r : Reading} (p : ReadsDrawing t r) where
   read-accepted e = let q = as-read e p in subst (λ (d : Design). Accepted d) (sym (q .keeps .1)) (text-accepted t (q .keeps .0))
 
   module _ (short : length t ≤ mostText) {out : List ℕ} {k : ℕ} where
-    pub image-written : r .answer ≡ Answer·variants.Accepted → HoldsWhole (r .design) out k → Converts t out k
+    pub image-written : r .answer ≡ Answer·variants.Accepted → HoldsWhole (r .design) out k → Converts t out 1 k
     image-written e h =
         let q = as-read e p in
         record { outputs = Outputs.image short (q .keeps .0) (rw (q .keeps .1) at (h .image)); counts = h .counts }
 
-    pub refusal-written : {n : ℕ} → r .answer ≡ Answer·variants.Refused n → Printed (lastField "REFUSED " n) out k → Converts t out k
+    pub refusal-written : {n : ℕ} → r .answer ≡ Answer·variants.Refused n → Printed (lastField "REFUSED " n) out k → Converts t out 1 k
     refusal-written {n} e h = record { outputs = Outputs.refused short n (as-read e p .keeps .0) (h .is); counts = h .counts }

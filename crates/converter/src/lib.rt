@@ -24,21 +24,34 @@ impl Text {
     }
 }
 
-// Writes what the program writes of the first n bytes of its room, and hands back how many bytes it has: none of a text that is too long.
-pub fn answer(input: &[u8], n: usize, out: &mut [u8]) -> usize
+// How many bytes are to go out, and where: to standard output, 1, or standard error, 2.
+pub struct Output {
+    pub stream: u8,
+    pub length: usize,
+}
+
+// Puts what the program writes of the first n bytes of its room into a slice: an image, a refusal, or the message that the text is too long.
+pub fn answer(input: &[u8], n: usize, out: &mut [u8]) -> Output
     requires { ⌜ (length (now input) ≡ mostText + 1) × (n ≤ length (now input)) × (mostBytes ≤ length (now out)) ⌝ }
-    ensures { λ r. ⌜ Converts (take n (now (input .entry))) (now (out .exit)) r ⌝ }
+    ensures { λ r. ⌜ Converts (take n (now (input .entry))) (now (out .exit)) (r .stream) (r .length) ⌝ }
 {
     if n > Text::MOST_BYTES {
-        return 0;
+        let length = pieces::put_word(
+            b"convert: the text is longer than 1,048,576 bytes\n",
+            out,
+            0,
+        );
+        return Output { stream: 2, length };
     }
     let reading = aiger::read(&input[..n]);
     let answer = reading.answer;
     let Answer::Refused(number) = answer else {
         let design = reading.design;
-        return put_image(design, out);
+        let length = put_image(design, out);
+        return Output { stream: 1, length };
     };
-    pieces::put_last_field(b"REFUSED ", pieces::wide(number), out, 0)
+    let length = pieces::put_last_field(b"REFUSED ", pieces::wide(number), out, 0);
+    Output { stream: 1, length }
 }
 
 // The image of an accepted design, which has room.
