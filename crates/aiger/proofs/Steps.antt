@@ -13,15 +13,15 @@ use Rattle.aiger.specs.Meaning.Faults.{Part, TextFault, header, whole}
 use Rattle.aiger.proofs.Accepted.{spelled-drawing}
 
 module _ (t : List ℕ) (free : (p : Part) → TextFault t p → ⊥) where
-  spelled : Spelled (drawingIn t)
-  spelled = spelled-drawing (free (header 3)) (free (whole 17))
+  numeral : Spelled (drawingIn t)
+  numeral = spelled-drawing (free (header 3)) (free (whole 17))
 
   faultless : (n : ℕ) → DrawingFault (drawingIn t) n → ⊥
   faultless n f = free (whole n) (TextFault.drawing n f)
 
   -- of a text to which no number applies: one clock of the design is what any values that fit the lines make it, and there are such
   pub text-steps : {s v : ℕ} {f : ℕ → ℕ} → Evaluates (drawingIn t) s v f → (nextState (drawn (drawingIn t)) s v ≡ nextOf (drawingIn t) f) × (outputs (drawn (drawingIn t)) s v ≡ outputsOf (drawingIn t) f)
-  text-steps a = drawn-steps spelled faultless a
+  text-steps a = drawn-steps numeral faultless a
 
   pub text-evaluated : (s v : ℕ) → Evaluates (drawingIn t) s v (λ u. value (drawn (drawingIn t)) s v (netOf (drawingIn t) (2 * u)))
-  text-evaluated s v = evaluated spelled faultless s v
+  text-evaluated s v = evaluated numeral faultless s v

@@ -9,9 +9,9 @@ use borrow.Author.Tests.{lt-ltb}
 use Rattle.io.specs.Digits.{glyph, digits as decimals, Fewest}
 use Rattle.pieces.specs.Meaning.Pieces.{places, spelled as decimal}
 use Rattle.pieces.proofs.Spelling.{less-one, places-fewest}
-use Rattle.lines.specs.Meaning.Spelling.{digit, digits, spelled, onward, value}
+use Rattle.lines.specs.Meaning.Spelling.{digit, digits, numeral, onward, value}
 use Rattle.lines.proofs.Scanning.{digit-of}
-use Rattle.lines.proofs.Fields.{spelled-one, spelled-more}
+use Rattle.lines.proofs.Fields.{numeral-one, numeral-more}
 
 -- the last digit as a byte
 figure : (n : ℕ) → glyph (n % 10) ≡ 48 + n % 10
@@ -63,20 +63,20 @@ leads : (k n : ℕ) → 10 ^ k ≤ n → n < 10 ^ suc k → Leads (decimals 10 (
 leads zero n h l = record { front = glyph (n % 10); rest = []; is = refl; above = omega (arith, figure n) }
 leads (suc k) n h l = leads-last (glyph (n % 10)) (leads k (n / 10) (omega (arith, pow-suc 10 k)) (omega (arith, pow-suc 10 (suc k))))
 
-spelled-decimals : (k n : ℕ) → Fewest 10 1 n k → spelled (decimals 10 k n) ≡ true
-spelled-decimals zero n f = absurd (omega (arith, f .0))
-spelled-decimals (suc zero) n f = spelled-one (glyph (n % 10)) (figure-digit n)
-spelled-decimals (suc (suc k)) n f =
+numeral-decimals : (k n : ℕ) → Fewest 10 1 n k → numeral (decimals 10 k n) ≡ true
+numeral-decimals zero n f = absurd (omega (arith, f .0))
+numeral-decimals (suc zero) n f = numeral-one (glyph (n % 10)) (figure-digit n)
+numeral-decimals (suc (suc k)) n f =
     let s = leads (suc k) n (rw (less-one (suc k)) at (f .2 (omega arith))) (f .1) in
-    rw (s .is) (spelled-more (s .front) (s .rest) (rw (s .is) at (digits-decimals (suc (suc k)) n)) (λ e. omega (arith, s .above)))
+    rw (s .is) (numeral-more (s .front) (s .rest) (rw (s .is) at (digits-decimals (suc (suc k)) n)) (λ e. omega (arith, s .above)))
 
 pub decimal-digits : (n : ℕ) → digits (decimal n) ≡ true
 unfolding decimal
 decimal-digits n = digits-decimals (places n) n
 
-pub decimal-spelled : (n : ℕ) → spelled (decimal n) ≡ true
+pub decimal-numeral : (n : ℕ) → numeral (decimal n) ≡ true
 unfolding decimal
-decimal-spelled n = spelled-decimals (places n) n (places-fewest n)
+decimal-numeral n = numeral-decimals (places n) n (places-fewest n)
 
 pub decimal-value : (n : ℕ) → value (decimal n) ≡ n
 unfolding decimal

@@ -5,12 +5,12 @@ use mathlib.Core.Bool.{true}
 use mathlib.Core.List.{List, [], _∷_, _++_, map, append-nil, append-assoc}
 use native.Mathlib.Omega.{arith}
 use lib.ListN.{length, getD}
-use Rattle.lines.specs.Meaning.Spelling.{words, behind, skip, cut, grow, digits, spelled, onward, value}
+use Rattle.lines.specs.Meaning.Spelling.{words, behind, skip, cut, grow, digits, numeral, onward, value}
 use Rattle.lines.specs.Working.Scanning.{graft}
 use Rattle.lines.proofs.Scanning.{digit-low, grow-graft, graft-none, words-digit, words-feed, words-space, behind-byte, behind-feed}
 use Rattle.pieces.specs.Meaning.Pieces.{spelled as decimal}
 use Rattle.drawing_sheet.specs.Meaning.Writing.{rest, row, rows}
-use Rattle.drawing_sheet.proofs.Numerals.{digits-cons, decimal-digits, decimal-spelled, decimal-value}
+use Rattle.drawing_sheet.proofs.Numerals.{digits-cons, decimal-digits, decimal-numeral, decimal-value}
 
 -- the words of numbers
 abbrev pub spell : List ℕ → List (List ℕ)
@@ -22,10 +22,10 @@ spell-value [] i = refl
 spell-value (n ∷ ns) zero = decimal-value n
 spell-value (n ∷ ns) (suc i) = spell-value ns i
 
-pub spell-spelled : (ns : List ℕ) (i : ℕ) → i < length (spell ns) → spelled (getD (spell ns) i []) ≡ true
-spell-spelled [] i h = absurd (omega arith)
-spell-spelled (n ∷ ns) zero h = decimal-spelled n
-spell-spelled (n ∷ ns) (suc i) h = spell-spelled ns i (omega arith)
+pub spell-numeral : (ns : List ℕ) (i : ℕ) → i < length (spell ns) → numeral (getD (spell ns) i []) ≡ true
+spell-numeral [] i h = absurd (omega arith)
+spell-numeral (n ∷ ns) zero h = decimal-numeral n
+spell-numeral (n ∷ ns) (suc i) h = spell-numeral ns i (omega arith)
 
 -- digits before a text are bytes of its first word
 module _ (s : List ℕ) where

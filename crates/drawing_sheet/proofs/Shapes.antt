@@ -10,7 +10,7 @@ use Rattle.aiger.specs.declared.body.Line.the-variants.{Input, Latch, Output, A
 use Rattle.lines.specs.Meaning.Spelling.{value}
 use Rattle.aiger.specs.Meaning.Faults.{Counts, Own, Initial, LineFault}
 use Rattle.drawing_sheet.proofs.Numerals.{decimal-value}
-use Rattle.drawing_sheet.proofs.Rows.{spell, spell-value, spell-spelled}
+use Rattle.drawing_sheet.proofs.Rows.{spell, spell-value, spell-numeral}
 
 -- of the places f of a line, those that its kind uses
 abbrev pub used : Line → (ℕ → ℕ) → List ℕ
@@ -77,7 +77,7 @@ module _ (m : ℕ) (f : ℕ → ℕ) (low : (i : ℕ) → f i ≤ 2 * m + 1) whe
   pub fine-line : (k : Line) → Own k (f 0) → Initial k (f 2) (f 0) → LineFault m k (spell (used k f)) → ⊥
   fine-line k o s (LineFault.missing e) = let z : 0 < length (spell (used k f)) = rw (some-used k f .1) (omega arith) in omega (arith, ap length e)
   fine-line k o s (LineFault.count h) = h (counted k)
-  fine-line k o s (LineFault.spelling i h e) = true≢false (sym (spell-spelled (used k f) i h) ∙ e)
+  fine-line k o s (LineFault.spelling i h e) = true≢false (sym (spell-numeral (used k f) i h) ∙ e)
   fine-line k o s (LineFault.above i h l) = omega (arith, l, spell-value (used k f) i, used-low k i)
   fine-line k o s (LineFault.own h) = h (own-read k o)
   fine-line k o s (LineFault.initial h) = h (initial-read k s)

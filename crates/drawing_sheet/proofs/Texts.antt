@@ -27,18 +27,18 @@ use Rattle.drawing.proofs.Lists.{has-place}
 use Rattle.drawing.proofs.Numbers as Numbers
 use Rattle.aiger.specs.declared.body.Line.{Line}
 use Rattle.aiger.specs.declared.body.Line.the-variants.{Input, Latch, Output, And}
-use Rattle.lines.specs.Meaning.Spelling.{wordsAt, spelled, value}
+use Rattle.lines.specs.Meaning.Spelling.{wordsAt, numeral, value}
 use Rattle.aiger.specs.Meaning.Format.{aag, wordAt, highestIn, inputsIn, latchesIn, outputsIn, andsIn, linesIn, drawingIn}
 use Rattle.aiger.specs.Meaning.Faults.{Counts, Own, Initial, LineFault, kindIn, Part, header, whole, order, numberOf, TextFault}
 use Rattle.aiger.proofs.Determined.{Listed, listed}
 
 -- the header line
-pub no-header-17 : (t : List ℕ) → wordAt t 0 0 ≡ aag → length (wordsAt t 0) ≡ 6 → T (every (λ k. spelled (wordAt t 0 (suc k))) 5) → TextFault t (header 17) → ⊥
+pub no-header-17 : (t : List ℕ) → wordAt t 0 0 ≡ aag → length (wordsAt t 0) ≡ 6 → T (every (λ k. numeral (wordAt t 0 (suc k))) 5) → TextFault t (header 17) → ⊥
 no-header-17 t a n s (TextFault.no-header e) = omega (arith, n, ap length e)
 no-header-17 t a n s (TextFault.other-header f) = f a
 no-header-17 t a n s (TextFault.not-five f) = f n
 no-header-17 t a n s (TextFault.size-spelling zero h l e) = omega arith
-no-header-17 t a n s (TextFault.size-spelling (suc k) h l e) = holds (spelled (wordAt t 0 (suc k))) (every-at (λ j. spelled (wordAt t 0 (suc j))) 5 k s (omega (arith, n))) e
+no-header-17 t a n s (TextFault.size-spelling (suc k) h l e) = holds (numeral (wordAt t 0 (suc k))) (every-at (λ j. numeral (wordAt t 0 (suc j))) 5 k s (omega (arith, n))) e
 
 abbrev pub sizeTest : List ℕ → Bool
 sizeTest t = leb (highestIn t) mostVariables && (leb (inputsIn t) mostInputs && (leb (latchesIn t) mostLatches && (leb (outputsIn t) mostOutputs && leb (andsIn t) mostCells)))
@@ -97,7 +97,7 @@ initial-of Output x o t = tt
 initial-of And x o t = tt
 
 abbrev pub wordTest : ℕ → List ℕ → Bool
-wordTest m w = spelled w && leb (value w) (2 * m + 1)
+wordTest m w = numeral w && leb (value w) (2 * m + 1)
 
 abbrev pub lineTest : ℕ → Line → List (List ℕ) → Bool
 lineTest m k ws =
@@ -126,8 +126,8 @@ module _ (m : ℕ) (k : Line) (ws : List (List ℕ)) (t : T (lineTest m k ws)) w
   fine-line : LineFault m k ws → ⊥
   fine-line (LineFault.missing e) = some-counts (subst (λ (n : ℕ). Counts k n) (ap length e) (counts k (length ws) (and-left (countTest k (length ws)) _ t)))
   fine-line (LineFault.count f) = f (counts k (length ws) (and-left (countTest k (length ws)) _ t))
-  fine-line (LineFault.spelling i h e) = holds (spelled (getD ws i [])) (and-left (spelled (getD ws i [])) _ (word i h)) e
-  fine-line (LineFault.above i h l) = not-lt (leb→le _ _ (and-right (spelled (getD ws i [])) (leb (value (getD ws i [])) (2 * m + 1)) (word i h))) l
+  fine-line (LineFault.spelling i h e) = holds (numeral (getD ws i [])) (and-left (numeral (getD ws i [])) _ (word i h)) e
+  fine-line (LineFault.above i h l) = not-lt (leb→le _ _ (and-right (numeral (getD ws i [])) (leb (value (getD ws i [])) (2 * m + 1)) (word i h))) l
   fine-line (LineFault.own f) = f (own-of k _ (and-left (ownTest k (value (getD ws 0 []))) _ last))
   fine-line (LineFault.initial f) = f (initial-of k _ _ (and-right (ownTest k (value (getD ws 0 []))) _ last))
 
@@ -190,7 +190,7 @@ module _ (d : Design) (rank : ℕ → ℕ) where
     no-loop i p = omega (arith, path-down p)
 
 -- a text whose header line is spelled, then one whose sizes are few, whose lines are spelled, and whose variables are driven
-module _ (t : List ℕ) (word : wordAt t 0 0 ≡ aag) (six : length (wordsAt t 0) ≡ 6) (sizes : T (every (λ k. spelled (wordAt t 0 (suc k))) 5)) where
+module _ (t : List ℕ) (word : wordAt t 0 0 ≡ aag) (six : length (wordsAt t 0) ≡ 6) (sizes : T (every (λ k. numeral (wordAt t 0 (suc k))) 5)) where
   abbrev Number : ℕ → Type 0
   Number n = FirstNumber (TextFault t) order numberOf n
 

@@ -19,7 +19,7 @@ use Rattle.aiger.specs.Meaning.Faults.{TextFault, header, whole}
 use Rattle.aiger.proofs.Headers.{first-line, header-right}
 use Rattle.pieces.specs.Meaning.Pieces.{spelled as decimal}
 use Rattle.drawing_sheet.specs.Meaning.Writing.{rest, row, rows, linesOf, textOf, linesFor, Writable, Spells}
-use Rattle.drawing_sheet.proofs.Rows.{spell, spell-value, spell-spelled, rest-words, rest-behind, row-words, skip-first, rows-skip}
+use Rattle.drawing_sheet.proofs.Rows.{spell, spell-value, spell-numeral, rest-words, rest-behind, row-words, skip-first, rows-skip}
 use Rattle.drawing_sheet.proofs.Shapes.{some-used}
 use Rattle.drawing_sheet.proofs.Places.{kindFor, lineFor, lines-length, lines-at, line-fine, line-held}
 
@@ -116,7 +116,7 @@ module _ {d : Drawing} (w : Writable d) (r : List ℕ) where
   pub written-read : Spells (textOf d ++ r) d
   written-read = record {
     gives = gives;
-    no-header-17 = header-right t (decimal (d .highest)) (decimal (d .inputs)) (decimal (d .latches)) (decimal (d .outputs)) (decimal (d .ands)) head-words (spell-spelled sizes);
+    no-header-17 = header-right t (decimal (d .highest)) (decimal (d .inputs)) (decimal (d .latches)) (decimal (d .outputs)) (decimal (d .ands)) head-words (spell-numeral sizes);
     no-header-3 = small;
     no-whole-17 = fine;
   }

@@ -15,6 +15,7 @@ use netlist::Cell;
 use netlist::Gate;
 use netlist::Image;
 
+// All cells, blank beyond them.
 pub(crate) fn cells_of(d: Drawing, w: Wires) -> [Cell; Image::MOST_CELLS]
     requires { ⌜ (Spelled d) × (Wired d (w .nets) (w .nots) (w .count)) × (d .ands + w .count ≤ mostCells) ⌝ }
     ensures { λ r. ⌜ Filled (cellOf d) blankCell mostCells (d .ands + w .count) r ⌝ }

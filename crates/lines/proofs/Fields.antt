@@ -11,7 +11,7 @@ use borrow.Author.Tests.{lt-ltb}
 use lib.Dec.{ltb}
 use lib.ListN.{length, getD, drop, drop-of-length-le}
 use lib.Seq.{drop-cons}
-use Rattle.lines.specs.Meaning.Spelling.{words, cut, grow, digit, digits, spelled}
+use Rattle.lines.specs.Meaning.Spelling.{words, cut, grow, digit, digits, numeral}
 use Rattle.lines.specs.Working.Scanning.{front, past, graft, join, NumberAt, BadWords, Bad, Spaced, Ended, FieldAt}
 use Rattle.lines.proofs.Scanning.{digit-low, split, front-digit, front-other, past-digit, past-other, words-byte, words-feed, words-space, behind-byte, behind-feed, words-front, behind-front}
 
@@ -46,32 +46,32 @@ unfolding digits
 digits-broken [] c v e = rw e
 digits-broken (x ∷ w) c v e = rw (digits-broken w c v e) (and-false (digit x))
 
-unspelled : (w : List ℕ) → digits w ≡ false → spelled w ≡ false
-unfolding digits spelled
+unspelled : (w : List ℕ) → digits w ≡ false → numeral w ≡ false
+unfolding digits numeral
 unspelled [] e = refl
 unspelled (x ∷ []) e = ⊎-elim (λ d. absurd (true≢false (rw d at e))) (λ d. d) (split (digit x))
 unspelled (x ∷ y ∷ w) e = rw e (and-false (ltb 48 x))
 
 -- digits are a number where the first is no 0, or alone
-pub spelled-one : (x : ℕ) → digit x ≡ true → spelled (x ∷ []) ≡ true
-unfolding spelled
-spelled-one x e = e
+pub numeral-one : (x : ℕ) → digit x ≡ true → numeral (x ∷ []) ≡ true
+unfolding numeral
+numeral-one x e = e
 
-pub spelled-more : (x : ℕ) (w : List ℕ) → digits (x ∷ w) ≡ true → (x ≡ 48 → ⊥) → spelled (x ∷ w) ≡ true
-unfolding spelled digits
-spelled-more x [] e n = ⊎-elim (λ d. d) (λ d. absurd (false≢true (rw d at e))) (split (digit x))
-spelled-more x (y ∷ w) e n = ⊎-elim
+pub numeral-more : (x : ℕ) (w : List ℕ) → digits (x ∷ w) ≡ true → (x ≡ 48 → ⊥) → numeral (x ∷ w) ≡ true
+unfolding numeral digits
+numeral-more x [] e n = ⊎-elim (λ d. d) (λ d. absurd (false≢true (rw d at e))) (split (digit x))
+numeral-more x (y ∷ w) e n = ⊎-elim
     (λ d. rw (lt-ltb 48 x (omega (arith, digit-low x d)), e))
     (λ d. absurd (false≢true (rw d at e)))
     (split (digit x))
 
 -- a line whose first word has a broken beginning
-bad-graft : (w : List ℕ) (ws : List (List ℕ)) → ((v : List ℕ) → spelled (w ++ v) ≡ false) → BadWords (graft w ws)
+bad-graft : (w : List ℕ) (ws : List (List ℕ)) → ((v : List ℕ) → numeral (w ++ v) ≡ false) → BadWords (graft w ws)
 bad-graft w [] e = inl refl
 bad-graft w (v ∷ vs) e = inr (0, omega arith, e v)
 
 bad-cut : (ws : List (List ℕ)) → BadWords (graft [] (cut ws))
-unfolding spelled
+unfolding numeral
 bad-cut [] = inl refl
 bad-cut (w ∷ ws) = inr (0, omega arith, refl)
 
@@ -81,7 +81,7 @@ module _ (s : List ℕ) where
   bad-ends e = inl (words-front s ∙ rw e)
 
   pub bad-zero : (y : ℕ) (w : List ℕ) → front s ≡ 48 ∷ y ∷ w → Bad s
-  unfolding spelled
+  unfolding numeral
   bad-zero y w e = rw (words-front s, e) (bad-graft (48 ∷ y ∷ w) (words (past s)) (λ v. refl))
 
   pub bad-stop : (c : ℕ) (r : List ℕ) → past s ≡ c ∷ r → (c ≡ 10 → ⊥) → (c ≡ 32 → ⊥) → Bad s
@@ -92,7 +92,7 @@ module _ (s : List ℕ) where
       grown (v ∷ vs) = inr (0, omega arith, unspelled (front s ++ c ∷ v) (digits-broken (front s) c v (past-head s c r e)))
 
   pub bad-none : front s ≡ [] → Bad s
-  unfolding words spelled
+  unfolding words numeral
   bad-none e = go (past s) refl
     where
       go : (r : List ℕ) → past s ≡ r → Bad s
@@ -105,14 +105,14 @@ module _ (s : List ℕ) where
           ten (no h) (no l) = bad-stop c r q h l
 
   -- the digits at the front, and a space or a line feed behind them
-  pub ends : (r : List ℕ) → past s ≡ 10 ∷ r → spelled (front s) ≡ true → Ended s (front s) r
+  pub ends : (r : List ℕ) → past s ≡ 10 ∷ r → numeral (front s) ≡ true → Ended s (front s) r
   ends r e h = record {
     number = h;
     cuts = words-front s ∙ rw (e, words-feed r) (ap (λ (w : List ℕ). w ∷ []) (append-nil (front s)));
     rest = behind-front s ∙ rw e (behind-feed r);
   }
 
-  pub spaces : (r : List ℕ) → past s ≡ 32 ∷ r → spelled (front s) ≡ true → Spaced s (front s) r
+  pub spaces : (r : List ℕ) → past s ≡ 32 ∷ r → numeral (front s) ≡ true → Spaced s (front s) r
   spaces r e h = record {
     number = h;
     cuts = words-front s ∙ rw (e, words-space r) (joined (words r));
@@ -167,14 +167,14 @@ module _ {t : List ℕ} {at v e : ℕ} (n : NumberAt t at v e) where
         go [] q = absurd (omega (arith, size, ap length q))
         go (y ∷ w) q = bad-zero s y w (fronts ∙ rw (z, q))
 
-    pub spells : (b ≡ 48 → e ≤ at + 1) → spelled (front s) ≡ true
+    pub spells : (b ≡ 48 → e ≤ at + 1) → numeral (front s) ≡ true
     spells h = go (ℕ-discrete b 48)
       where
-        go : Dec (b ≡ 48) → spelled (front s) ≡ true
+        go : Dec (b ≡ 48) → numeral (front s) ≡ true
         go (yes z) =
             let q : front (drop (at + 1) t) ≡ [] = empty _ (omega (arith, size, h z)) in
-            rw (fronts, q) (spelled-one b leads)
-        go (no z) = rw fronts (spelled-more b (front (drop (at + 1) t)) (rw fronts at (digits-front s)) z)
+            rw (fronts, q) (numeral-one b leads)
+        go (no z) = rw fronts (numeral-more b (front (drop (at + 1) t)) (rw fronts at (digits-front s)) z)
 
   module _ (more : e < length t) where
     follows : past s ≡ getD t e 0 ∷ drop (e + 1) t
@@ -183,7 +183,7 @@ module _ {t : List ℕ} {at v e : ℕ} (n : NumberAt t at v e) where
     pub stops-other : (getD t e 0 ≡ 10 → ⊥) → (getD t e 0 ≡ 32 → ⊥) → Bad s
     stops-other p q = bad-stop s (getD t e 0) (drop (e + 1) t) follows p q
 
-    pub a-field : (k : ℕ) → k ≡ getD t e 0 → (k ≡ 10) ⊎ (k ≡ 32) → spelled (front s) ≡ true → FieldAt s v k (drop (e + 1) t)
+    pub a-field : (k : ℕ) → k ≡ getD t e 0 → (k ≡ 10) ⊎ (k ≡ 32) → numeral (front s) ≡ true → FieldAt s v k (drop (e + 1) t)
     a-field k h o p = record {
       bad = λ x y. absurd (⊎-elim y x o);
       spaced = λ x. (front s, spaces s (drop (e + 1) t) (follows ∙ rw (← h, x)) p, n .capped);

@@ -8,7 +8,7 @@ use native.Mathlib.Omega.{arith}
 use native.Mathlib.Decide.{ℕ-discrete}
 use lib.ListN.{length, getD, length-append, List·getD-append}
 use lib.Seq.{getD-append-add, getD-append-seam}
-use Rattle.lines.specs.Meaning.Spelling.{words, behind, spelled, onward, value}
+use Rattle.lines.specs.Meaning.Spelling.{words, behind, numeral, onward, value}
 use Rattle.lines.specs.Working.Scanning.{join, cap, BadWords, Bad, Spaced, Ended, FieldAt}
 use Rattle.lines.specs.Working.Rows.{Fine, RowFault, RowAt}
 
@@ -33,10 +33,10 @@ module _ {s r : List ℕ} {us : List (List ℕ)} (l : Led s us r) where
       go (v ∷ vs) = sym (append-assoc us (w ∷ []) (v ∷ vs))
 
   -- a bad word behind the words us
-  pub led-broken : Bad r → (words s ≡ []) ⊎ ((k : ℕ) × (length us ≤ k) × (k < length (words s)) × (spelled (getD (words s) k []) ≡ false))
+  pub led-broken : Bad r → (words s ≡ []) ⊎ ((k : ℕ) × (length us ≤ k) × (k < length (words s)) × (numeral (getD (words s) k []) ≡ false))
   led-broken b = rw (l .cuts) (go (words r) b)
     where
-      go : (ws : List (List ℕ)) → BadWords ws → (join us ws ≡ []) ⊎ ((k : ℕ) × (length us ≤ k) × (k < length (join us ws)) × (spelled (getD (join us ws) k []) ≡ false))
+      go : (ws : List (List ℕ)) → BadWords ws → (join us ws ≡ []) ⊎ ((k : ℕ) × (length us ≤ k) × (k < length (join us ws)) × (numeral (getD (join us ws) k []) ≡ false))
       go [] b = inl refl
       go (v ∷ vs) (inl e) = absurd (let z : _≡_ {A = ℕ} 0 1 = cc in omega arith)
       go (v ∷ vs) (inr k) = inr (length us + k .0, omega arith, omega (arith, length-append us (v ∷ vs), k .1), rw (getD-append-add us (v ∷ vs) (k .0) []) (k .2))
@@ -69,8 +69,8 @@ all-more P us w f p i l = go (ℕ-discrete i (length us))
         let k : i < length us = omega (arith, length-append us (w ∷ [])) in
         subst P (sym (List·getD-append us (w ∷ []) [] i k)) (f i k)
 
-pub fine-more : (m : ℕ) (us : List (List ℕ)) (w : List ℕ) → Fine m us → spelled w ≡ true → value w ≤ m → Fine m (us ++ (w ∷ []))
-fine-more m us w f e h = all-more (λ (v : List ℕ). (spelled v ≡ true) × (value v ≤ m)) us w f (e, h)
+pub fine-more : (m : ℕ) (us : List (List ℕ)) (w : List ℕ) → Fine m us → numeral w ≡ true → value w ≤ m → Fine m (us ++ (w ∷ []))
+fine-more m us w f e h = all-more (λ (v : List ℕ). (numeral v ≡ true) × (value v ≤ m)) us w f (e, h)
 
 exact : (v x m : ℕ) → min v cap ≡ min x cap → v ≤ m → m < cap → v ≡ x
 exact v x m e h l = omega arith

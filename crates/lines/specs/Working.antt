@@ -1,3 +1,3 @@
--- Definitions that only private contracts and proofs cite.
+-- Definitions that only inner contracts and proofs cite.
 pub mod Scanning
 pub mod Rows

@@ -54,6 +54,7 @@ pub fn scan(text: &[u8], at: usize, most: u16) -> Row
     row_of(3, a.value, b.value, c.value, c.end)
 }
 
+// A line of so many numbers.
 fn row_of(count: usize, first: u16, second: u16, third: u16, end: usize) -> Row
     ensures { λ r. ⌜ (r .count ≡ count) × (r .first ≡ first) × (r .second ≡ second) × (r .third ≡ third) × (r .end ≡ end) ⌝ }
 {
@@ -66,6 +67,7 @@ fn row_of(count: usize, first: u16, second: u16, third: u16, end: usize) -> Row
     }
 }
 
+// No line.
 fn no_row() -> Row
     ensures { λ r. ⌜ (r .count ≡ 0) × (r .end ≡ 0) ⌝ }
 {
@@ -110,6 +112,7 @@ pub fn take(text: &[u8], at: usize) -> Taken
     }
 }
 
+// No number.
 fn none() -> Taken
     ensures { λ r. ⌜ (r .stop ≡ 0) × (r .end ≡ 0) ⌝ }
 {
@@ -145,12 +148,14 @@ fn digits(text: &[u8], at: usize) -> Run
     Run { value: n, end: i }
 }
 
+// A byte as a number.
 fn wide(x: u8) -> u16
     ensures { λ r. ⌜ r ≡ x ⌝ }
 {
     x as u16
 }
 
+// Whether a byte is a digit.
 fn is_digit(x: u8) -> bool
     ensures { λ r. ⌜ r ≡ digit x ⌝ }
 {

@@ -1,7 +1,7 @@
 -- The first entry of an order that applies is one, and so is the reply that keeps a promise over it.
 use Prim.Native.Nat.{ℕ}
 use mathlib.Core.Path.{_≡_, refl, sym, _∙_, ap}
-use mathlib.Core.List.{List}
+use mathlib.Core.List.{List, _∷_}
 use Rattle.memory.specs.Meaning.Orders.{FirstIn, FirstNumber}
 
 pub entry-applies : {K : Type 0} {P : K → Type 0} {ks : List K} {k : K} → FirstIn P ks k → P k
@@ -20,3 +20,8 @@ number-unique {number = number} p q = p .numbered ∙ ap number (entry-unique (p
 -- where something applies, its number is refused, and not answered
 pub never-free : {K : Type 0} {P : K → Type 0} {ks : List K} {number : K → ℕ} {n : ℕ} → FirstNumber P ks number n → ((k : K) → P k → ⊥) → ⊥
 never-free p f = f (p .entry) (entry-applies (p .first))
+
+-- an entry stands in the order
+pub data Stands {K : Type 0} : List K → K → Type 0 where
+  first : {k : K} {ks : List K} → Stands (k ∷ ks) k
+  behind : {j k : K} {ks : List K} → Stands ks k → Stands (j ∷ ks) k

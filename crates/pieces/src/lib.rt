@@ -6,6 +6,7 @@ ghost use lib.ListN.{length};
 ghost use Rattle.pieces.specs.Meaning.Pieces.{spelled, newline};
 ghost use Rattle.pieces.specs.Working.Put.{Put};
 
+// A word.
 pub fn put_word(word: &[u8], text: &mut [u8], at: usize) -> usize
     requires { ⌜ at + length (now word) ≤ length (now text) ⌝ }
     ensures { λ r. ⌜ Put (length (now (word .entry))) (now (word .entry)) at (now (text .entry)) (now (text .exit)) r ⌝ }
@@ -18,7 +19,7 @@ pub fn put_word(word: &[u8], text: &mut [u8], at: usize) -> usize
     at + i
 }
 
-// A number of 64 bits has at most 20 digits.
+// A number, of at most 20 digits.
 pub fn put_number(n: usize, text: &mut [u8], at: usize) -> usize
     requires { ⌜ at + 20 ≤ length (now text) ⌝ }
     ensures { λ r. ⌜ Put 20 (spelled n) at (now (text .entry)) (now (text .exit)) r ⌝ }

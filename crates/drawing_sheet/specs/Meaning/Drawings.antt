@@ -1,5 +1,4 @@
 -- Drawings in ASCII AIGER: request §1 on texts, a text a sentence.
---   imageP, imageQ  the images of P and Q of 01's sheet
 --   RefusedBy t n   the text t is turned away by number n
 --   DrawnAs t d     the text t is accepted, and d is the design that it draws
 --   design ..       a design of so many inputs, with the gates, the nets read by flip-flops and the nets shown; blank beyond
@@ -15,19 +14,10 @@ use Rattle.netlist.specs.declared.Gate.{Gate}
 use Rattle.netlist.specs.declared.Gate.the-variants.{Buf, Not, And}
 use Rattle.netlist.specs.declared.Design.{Design}
 use Rattle.netlist.specs.Meaning.Limits.{mostLatches, mostOutputs, mostCells}
-use Rattle.image.specs.Meaning.Format.{decoded}
 use Rattle.drawing.specs.Meaning.Wires.{drawn}
 use Rattle.aiger.specs.Meaning.Format.{drawingIn}
 use Rattle.aiger.specs.Meaning.Faults.{Part, TextFault, order, numberOf}
 use Rattle.pieces.specs.Meaning.Pieces.{bytes}
-
--- "`11 11 00 00 80 60` (old: the input into a flip-flop, shown)"
-abbrev pub imageP : List ℕ
-imageP = 0x11 ∷ 0x11 ∷ 0x00 ∷ 0x00 ∷ 0x80 ∷ 0x60 ∷ []
-
--- "`11 11 01 10 10 00 80 C0 00 40 28` (new: an inverter before and after it)"
-abbrev pub imageQ : List ℕ
-imageQ = 0x11 ∷ 0x11 ∷ 0x01 ∷ 0x10 ∷ 0x10 ∷ 0x00 ∷ 0x80 ∷ 0xC0 ∷ 0x00 ∷ 0x40 ∷ 0x28 ∷ []
 
 abbrev pub RefusedBy : String → ℕ → Type 0
 RefusedBy s n = FirstNumber (TextFault (bytes s)) order numberOf n
@@ -49,8 +39,8 @@ design i gates reads shows = record {
 
 pub record Drawings : Type 0 where
   -- the sheet's P and Q: "the input into a flip-flop, shown", and "an inverter before and after it"
-  pub p-drawing : DrawnAs "aag 2 1 1 1 0\n2\n4 2\n4\n" (decoded imageP)
-  pub q-drawing : DrawnAs "aag 2 1 1 1 0\n2\n4 3\n5\n" (decoded imageQ)
+  pub p-drawing : DrawnAs "aag 2 1 1 1 0\n2\n4 2\n4\n" (design 1 [] (2 ∷ []) (3 ∷ []))
+  pub q-drawing : DrawnAs "aag 2 1 1 1 0\n2\n4 3\n5\n" (design 1 (Not 2 ∷ Not 3 ∷ []) (4 ∷ []) (5 ∷ []))
   -- "AND gates become AND cells in file order; then comes one NOT cell for each variable read negated, rising by variable": two inputs, a flip-flop, and ANDs of
   -- which the first reads the second; variables stand in no order, and 9 is read negated twice
   pub forward : DrawnAs "aag 9 2 1 2 2\n18\n4\n12 7\n7\n19\n6 8 12\n8 19 5\n" (design 2 (And 6 4 ∷ And 9 7 ∷ Not 3 ∷ Not 5 ∷ Not 2 ∷ []) (8 ∷ []) (8 ∷ 9 ∷ []))

@@ -9,11 +9,11 @@ use mathlib.Core.Logic.{_⊎_}
 use mathlib.Core.Bool.{true}
 use mathlib.Core.List.{List, []}
 use lib.ListN.{length, getD}
-use Rattle.lines.specs.Meaning.Spelling.{words, behind, spelled, value}
+use Rattle.lines.specs.Meaning.Spelling.{words, behind, numeral, value}
 use Rattle.lines.specs.Working.Scanning.{BadWords}
 
 abbrev pub Fine : ℕ → List (List ℕ) → Type 0
-Fine m us = (i : ℕ) → i < length us → (spelled (getD us i []) ≡ true) × (value (getD us i []) ≤ m)
+Fine m us = (i : ℕ) → i < length us → (numeral (getD us i []) ≡ true) × (value (getD us i []) ≤ m)
 
 abbrev pub RowFault : ℕ → List (List ℕ) → Type 0
 RowFault m ws = BadWords ws ⊎ ((3 < length ws) ⊎ ((i : ℕ) × (i < length ws) × (m < value (getD ws i []))))

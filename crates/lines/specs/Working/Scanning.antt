@@ -15,7 +15,7 @@ use mathlib.Core.Logic.{_⊎_}
 use mathlib.Core.Bool.{true, false, cond}
 use mathlib.Core.List.{List, [], _∷_, _++_}
 use lib.ListN.{length, getD, drop}
-use Rattle.lines.specs.Meaning.Spelling.{words, behind, digit, spelled, onward, value}
+use Rattle.lines.specs.Meaning.Spelling.{words, behind, digit, numeral, onward, value}
 
 unfoldable pub front : List ℕ → List ℕ
 front [] = []
@@ -43,18 +43,18 @@ pub record NumberAt (t : List ℕ) (at v e : ℕ) : Type 0 where
   pub capped : min v cap ≡ min (value (front (drop at t))) cap
 
 abbrev pub BadWords : List (List ℕ) → Type 0
-BadWords ws = (ws ≡ []) ⊎ ((k : ℕ) × (k < length ws) × (spelled (getD ws k []) ≡ false))
+BadWords ws = (ws ≡ []) ⊎ ((k : ℕ) × (k < length ws) × (numeral (getD ws k []) ≡ false))
 
 abbrev pub Bad : List ℕ → Type 0
 Bad s = BadWords (words s)
 
 pub record Spaced (s w r : List ℕ) : Type 0 where
-  pub number : spelled w ≡ true
+  pub number : numeral w ≡ true
   pub cuts : words s ≡ join (w ∷ []) (words r)
   pub rest : behind s ≡ behind r
 
 pub record Ended (s w r : List ℕ) : Type 0 where
-  pub number : spelled w ≡ true
+  pub number : numeral w ≡ true
   pub cuts : words s ≡ w ∷ []
   pub rest : behind s ≡ r
 

@@ -1,6 +1,6 @@
 -- Texts as lists of bytes: words, numbers and lines.
 --   bytes s                    the bytes of a quoted text
---   places n, spelled n        how many decimal digits the number n has, and these digits
+--   places n, spelled n        how many decimal digits the number n has, counted by placesIn, and these digits
 --   newline                    the end of a line
 --   field s n, lastField s n   the number n behind the words s, inside a line and at its end
 --   Printed l text′ r          the first r bytes of text′ are the text l
