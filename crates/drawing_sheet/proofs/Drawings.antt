@@ -1,5 +1,5 @@
 -- What the definitions say of texts, by computing.
-use Prim.Native.Nat.{ℕ, suc, _≤_}
+use Prim.Native.Nat.{ℕ, _≤_}
 use Prim.Native.String.{String}
 use mathlib.Core.Path.{_≡_, refl, ap}
 use mathlib.Core.Logic.{_⊎_, inl, inr}
@@ -9,7 +9,6 @@ use lib.Dec.{lit<, lit≤, eqb→eq}
 use lib.ListN.{getD}
 use Rattle.memory.specs.Meaning.Lists.{listOf}
 use Rattle.memory.specs.Meaning.Orders.{FirstIn}
-use Rattle.netlist.specs.declared.Gate.the-variants.{Not, And}
 use Rattle.netlist.specs.Meaning.Loops.{Path}
 use Rattle.drawing.specs.Meaning.Lists.{has, place, sift}
 use Rattle.drawing.specs.Meaning.Wires.{drawn}

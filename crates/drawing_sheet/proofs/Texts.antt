@@ -1,8 +1,8 @@
 -- Texts by computed tests: what each number asks is a test of finitely many entries.
 use Prim.Native.Nat.{ℕ, zero, suc, _+_, _-_, _*_, _/_, _%_, _<_}
-use mathlib.Core.Path.{_≡_, refl, sym, ap, subst}
+use mathlib.Core.Path.{_≡_, refl, ap, subst}
 use mathlib.Core.Logic.{_⊎_, inl, inr, ⊎-elim}
-use mathlib.Core.Bool.{Bool, true, false, not, _&&_, _||_, true≢false}
+use mathlib.Core.Bool.{Bool, true, not, _&&_, _||_}
 use mathlib.Core.List.{List, []}
 use native.Mathlib.Omega.{arith}
 use lib.Dec.{T, T-not, eqb, eqb→eq, eqb-refl, leb, leb→le, ltb, ltb→lt}
@@ -16,7 +16,6 @@ use Rattle.netlist.specs.Meaning.Gates.{firstOf, secondOf}
 use Rattle.netlist.specs.Meaning.Nets.{cellBase, gateAt}
 use Rattle.netlist.specs.Meaning.Loops.{Reads, Path}
 use Rattle.netlist.specs.Meaning.Faults.{DesignFault}
-use Rattle.drawing.specs.Meaning.Limits.{mostVariables}
 use Rattle.drawing.specs.declared.Drawing.{Drawing}
 use Rattle.drawing.specs.Meaning.Limits.{mostVariables}
 use Rattle.drawing.specs.Meaning.Lists.{has, place}

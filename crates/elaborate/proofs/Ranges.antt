@@ -9,7 +9,7 @@ use lib.Dec.{ltb}
 use lib.ListN.{length, getD}
 use Rattle.numbers.proofs.Order.{le-of-not-lt}
 use Rattle.memory.specs.Meaning.Lists.{listOf}
-use Rattle.memory.proofs.Lists.{getD-listOf}
+use Rattle.memory.proofs.Lists.{getD-listOf, entry-listOf}
 use Rattle.netlist.specs.declared.Cell.{Cell}
 use Rattle.netlist.specs.Meaning.Limits.{mostLatches, mostOutputs, mostCells}
 use Rattle.netlist.specs.Meaning.Gates.{blankCell}
@@ -44,17 +44,14 @@ module _ (d : Drawing) (few : d .ands + length (negated d) ≤ mostCells) where
   gate-not i l h = drawn-gate i h ∙ ap (λ (c : Cell). c .gate) (cell-not d i l h)
 
 -- the nets that flip-flops and outputs read
-entry : (m n k : ℕ) (f : ℕ → ℕ) → n ≤ m → k < n → getD (listOf m (λ j. cond (ltb j n) (f j) 0)) k 0 ≡ f k
-entry m n k f h l = getD-listOf m (λ j. cond (ltb j n) (f j) 0) 0 k (omega arith) ∙ simp (lt-ltb k n l)
-
 module _ {d : Drawing} (s : Spelled d) where
   pub drawn-data : (k : ℕ) → k < d .latches → getD (drawn d .«data») k 0 ≡ netOf d (next d k)
   unfolding drawn
-  drawn-data k h = entry mostLatches (d .latches) k (λ j. netOf d (next d j)) (s .few-latches) h
+  drawn-data k h = entry-listOf (λ j. netOf d (next d j)) 0 (d .latches) mostLatches k (s .few-latches) h
 
   pub drawn-shown : (k : ℕ) → k < d .outputs → getD (drawn d .shown) k 0 ≡ netOf d (shown d k)
   unfolding drawn
-  drawn-shown k h = entry mostOutputs (d .outputs) k (λ j. netOf d (shown d j)) (s .few-outputs) h
+  drawn-shown k h = entry-listOf (λ j. netOf d (shown d j)) 0 (d .outputs) mostOutputs k (s .few-outputs) h
 
 pub drawn-nets : (d : Drawing) → netsOf (drawn d) ≡ netCount d
 unfolding drawn

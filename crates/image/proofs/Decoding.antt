@@ -13,7 +13,7 @@ use lib.ListN.{length, getD}
 use Rattle.numbers.proofs.Order.{tri, stable}
 use Rattle.memory.specs.Meaning.Lists.{listOf}
 use Rattle.memory.specs.Working.Filling.{Filled}
-use Rattle.memory.proofs.Lists.{getD-listOf, filled-listOf}
+use Rattle.memory.proofs.Lists.{entry-listOf, filled-listOf}
 use Rattle.memory.proofs.Refusals.{Clean}
 use Rattle.netlist.specs.declared.Cell.{Cell}
 use Rattle.netlist.specs.declared.Design.{Design}
@@ -36,9 +36,6 @@ pub record Decodes (b : List ℕ) (d : Design) : Type 0 where
   pub tails : (t : ℕ) → t < latchesIn b + outputsIn b → tailNet d t ≡ tailIn b t
 
 module _ (b : List ℕ) (w : WithinLimits b) where
-  entry : {A : Type 0} (f : ℕ → A) (z : A) (n m k : ℕ) → n ≤ m → k < n → getD (listOf m (λ j. cond (ltb j n) (f j) z)) k z ≡ f k
-  entry f z n m k h l = getD-listOf m (λ j. cond (ltb j n) (f j) z) z k (omega arith) ∙ simp (lt-ltb k n l)
-
   pub decodes : Decodes b (decoded b)
   unfolding decoded
   decodes = record {
@@ -46,15 +43,15 @@ module _ (b : List ℕ) (w : WithinLimits b) where
     latches = refl;
     outputs = refl;
     count = refl;
-    gates = λ i h. ap (λ (c : Cell). c .gate) (entry (cellIn b) blankCell (countIn b) mostCells i (w .few-cells) h);
+    gates = λ i h. ap (λ (c : Cell). c .gate) (entry-listOf (cellIn b) blankCell (countIn b) mostCells i (w .few-cells) h);
     tails = λ t h. tail t h (decLt t (latchesIn b));
   }
     where
       tail : (t : ℕ) → t < latchesIn b + outputsIn b → Dec (t < latchesIn b) → tailNet (decoded b) t ≡ tailIn b t
-      tail t h (yes l) = simp (lt-ltb t (latchesIn b) l) (entry (λ k. tailIn b (0 + k)) 0 (latchesIn b) mostLatches t (w .few-latches) l ∙ ap (tailIn b) (zero-add t))
+      tail t h (yes l) = simp (lt-ltb t (latchesIn b) l) (entry-listOf (λ k. tailIn b (0 + k)) 0 (latchesIn b) mostLatches t (w .few-latches) l ∙ ap (tailIn b) (zero-add t))
       tail t h (no l) =
           let e : latchesIn b + (t - latchesIn b) ≡ t = omega arith in
-          simp (le-ltb t (latchesIn b) (omega arith)) (entry (λ k. tailIn b (latchesIn b + k)) 0 (outputsIn b) mostOutputs (t - latchesIn b) (w .few-outputs) (omega arith) ∙ ap (tailIn b) e)
+          simp (le-ltb t (latchesIn b) (omega arith)) (entry-listOf (λ k. tailIn b (latchesIn b + k)) 0 (outputsIn b) mostOutputs (t - latchesIn b) (w .few-outputs) (omega arith) ∙ ap (tailIn b) e)
 
 -- a design that is made of these entries is the one
 pub made : (b : List ℕ) (i l o g : ℕ) (cells : List Cell) (reads shows : List ℕ)

@@ -1,5 +1,5 @@
 -- Laws on lists that are given by their entries.
-use Prim.Native.Nat.{ℕ, zero, suc, _+_, _<_}
+use Prim.Native.Nat.{ℕ, zero, suc, _+_, _<_, _≤_}
 use mathlib.Core.Path.{_≡_, refl, sym, ap, _∙_}
 use mathlib.Core.Bool.{cond}
 use mathlib.Core.List.{List, [], _∷_, _++_}
@@ -23,6 +23,10 @@ unfolding listOf
 getD-listOf zero f z k h = absurd (omega arith)
 getD-listOf (suc n) f z zero h = refl
 getD-listOf (suc n) f z (suc k) h = getD-listOf n (λ j. f (suc j)) z k (omega arith)
+
+-- an entry in use of a list that is z beyond
+pub entry-listOf : {A : Type 0} (f : ℕ → A) (z : A) (n m k : ℕ) → n ≤ m → k < n → getD (listOf m (λ j. cond (ltb j n) (f j) z)) k z ≡ f k
+entry-listOf f z n m k h l = getD-listOf m (λ j. cond (ltb j n) (f j) z) z k (omega arith) ∙ simp (lt-ltb k n l)
 
 -- lists with the same entries, and a list in two parts
 pub listOf-cong : {A : Type 0} (n : ℕ) (f g : ℕ → A) → ((k : ℕ) → k < n → f k ≡ g k) → listOf n f ≡ listOf n g

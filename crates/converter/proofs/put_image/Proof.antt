@@ -1,5 +1,4 @@
 -- `put_image`: the writer has room, and its bytes are the whole image.
-use native.Mathlib.Omega.{arith}
 use Rattle.converter.proofs.Images.{never-refused, written-whole}
 use borrow.Author.Needs.{needs}
 use Rattle.converter.proofs.put_image.Statement.{statement}
