@@ -143,7 +143,7 @@ def image_step(data, state, vector):
 
 
 def answer(text, draw):
-    """What the program prints of a text."""
+    """What is read of a text: an image, or a refusal."""
     try:
         drawing = Drawing(text)
     except Refused as refused:
@@ -155,6 +155,17 @@ def answer(text, draw):
         bits = [start >> place & 1 for place in range(width)]
         assert drawing.step(bits[:latches], bits[latches:]) == image_step(data, bits[:latches], bits[latches:]), text
     return data.hex(" ").upper()
+
+
+# The most bytes that `convert` takes, and how many of a text the program has room for.
+MOST = 2 ** 20
+ROOM = MOST + 1
+
+
+def answers(text, said):
+    """The program's two lines on a text of which this is read: with the design beside a refusal, and what `convert` writes, and where."""
+    read = said + " BESIDE 10 00 00 00" if said.startswith("REFUSED") else said
+    return f"{read}\n" + ("2 convert: the text is longer than 1,048,576 bytes" if len(text) > MOST else f"1 {said}")
 
 
 # Questions.
@@ -505,14 +516,42 @@ def limits():
     yield "ok", "every size at its limit", written(
         [[511, 6, 7, 8, 243]] + [[2 + 2 * k] for k in range(6)] + [[14 + 2 * k, 15 + 2 * k] for k in range(7)] + [[27]] * 8
         + [[28 + 2 * k, 3 + 2 * (k % 6), 26 + 2 * k] for k in range(243)])
-    yield "ok", "a text of 5000 bytes", b"aag 0 0 0 0 0\n".ljust(5000, b"x")
+
+
+def lengths():
+    """Texts of a mebibyte and of a byte more; and texts that would be read otherwise with what the text before has left behind them."""
+    p, q = b"aag 2 1 1 1 0\n2\n4 2\n4\n", b"aag 2 1 1 1 0\n2\n4 3\n5\n"
+    for length, name in (MOST, "a mebibyte"), (ROOM, "a mebibyte and a byte"):
+        def long(head):
+            return head.ljust(MOST, b"\0").ljust(length, b"x")
+
+        yield "ok", f"{name}, nothing drawn", long(b"aag 0 0 0 0 0\n")
+        yield "111100008060", f"{name}, P of the bench sheet", long(p)
+        yield "11110110100080C0004028", f"{name}, Q of the bench sheet", long(q + b"c\n")
+        yield 17, f"{name} of zeros", long(b"")
+        yield 17, f"{name}, header without a line feed", long(b"aag 0 0 0 0 0")
+        yield 17, f"{name}, last line without a line feed", long(p[:-1])
+        yield 3, f"{name}, M 512", long(b"aag 512 0 0 0 0\n")
+        yield 9, f"{name}, AND on itself", long(b"aag 1 0 0 0 1\n2 2 2\n")
+        yield 18, f"{name}, no driver", long(b"aag 1 0 0 1 0\n2\n")
+    for text, name in (p, "P"), (q, "Q"):
+        for cut in range(len(text), 0, -1):
+            yield "ok" if cut == len(text) else 17, f"{name}, {cut} bytes", text[:cut]
+    yield "ok", "two inputs", b"aag 2 2 0 0 0\n2\n4\n"
+    yield 17, "two inputs, one line", b"aag 2 2 0 0 0\n2\n"
+    yield 17, "two inputs, no line", b"aag 2 2 0 0 0\n"
+    yield "ok", "line feeds", b"aag 0 0 0 0 0" + b"\n" * 100
+    yield 17, "line feeds left", b"aag 0 0 0 0 0"
+    yield 17, "no text, a drawing left", b""
 
 
 # Lines that are no question, and what is said of each.
 NO_QUESTIONS = [
     b"no colon", b"", b"an escape of another letter:\\a", b"an escape cut short:\\x4", b"an escape of no digits:\\xGG",
-    b"an escape in small letters:\\x0a", b"a backslash at the end:aag 0 0 0 0 0\\", b"a text of 5001 bytes:".ljust(5022, b"x")]
-MESSAGE = rb"NO QUESTION: a line is NAME:TEXT, at most 5000 bytes, a backslash only in \n \t \r \\ \xHH"
+    b"an escape in small letters:\\x0a", b"a backslash at the end:aag 0 0 0 0 0\\",
+    b"two bytes over a mebibyte:aag 0 0 0 0 0\\n\\zxx", b"three bytes over a mebibyte:\\zx\\n\\x00",
+    b"zero bytes to a mebibyte twice:\\z\\z", b"zero bytes above a mebibyte:\\zx\\z"]
+MESSAGE = rb"NO QUESTION: a line is NAME:TEXT, at most 1,048,577 bytes, a backslash only in \n \t \r \\ \xHH, and \z below 1,048,576"
 
 
 def drawn(draw):
@@ -570,6 +609,8 @@ def unescaped(spelled):
 
 def escaped(text):
     """A text as it stands in a question."""
+    if len(text) >= MOST:
+        return escaped(text[:MOST].rstrip(b"\0")) + b"\\z" + escaped(text[MOST:])
     named = {9: b"\\t", 10: b"\\n", 13: b"\\r", 92: b"\\\\"}
     return b"".join(named.get(byte, bytes([byte]) if 32 <= byte < 127 else b"\\x%02X" % byte) for byte in text)
 
@@ -591,9 +632,9 @@ def main():
         assert str(expected) in (kind.replace("REFUSED ", ""), said.replace(" ", ""), "any"), (expected, name, said)
         kinds[kind] += 1
         assert name not in questions and ":" not in name, name
-        questions[name] = name.encode() + b":" + escaped(text), name.encode() + b"\n" + said.encode()
+        questions[name] = name.encode() + b":" + escaped(text), f"{name}\n{answers(text, said)}".encode()
 
-    for part in by_hand(), spellings(), headers(), limits():
+    for part in by_hand(), spellings(), headers(), limits(), lengths():
         for question in part:
             ask(*question)
     for line in NO_QUESTIONS:

@@ -1,31 +1,37 @@
-// Reads drawings in ASCII AIGER, and prints for each its name, then its image or its refusal, then an empty line. Standard input has a
-// question a line: a name, a colon, and the text of the drawing, in which \n, \t, \r, \\ and \xHH stand for bytes.
+// Reads drawings in ASCII AIGER, and prints for each its name, then what `aiger` reads, then what `convert` writes and to which stream,
+// then an empty line. A design is shown by its image in hexadecimal, also the one beside a refusal. Standard input has a question a
+// line: a name, a colon, and the text of the drawing, in which \n, \t, \r, \\ and \xHH stand for bytes, and \z for as many zero bytes
+// as make the text a mebibyte long. Behind each text stand leftovers of those before.
 mod escapes;
 
-ghost use Prim.Native.Nat.{_≤_};
+ghost use mathlib.Core.Path.{_≡_};
+ghost use Prim.Native.Nat.{_+_, _≤_};
 ghost use lib.ListN.{length};
+ghost use Rattle.converter.specs.Meaning.Output.{mostText};
+use converter::Text;
 use image::Answer;
 use netlist::Design;
 use netlist::Image;
 use writer::Written;
 
-// The most bytes of all questions, and of one text.
+// The most bytes of all questions.
 const QUESTIONS: usize = 200000;
-
-const TEXT: usize = 5000;
 
 fn main() {
     let mut all = [0u8; QUESTIONS];
     let n = io::read_full(0, &mut all);
-    ask_all(&all[..n]);
+    let mut room = Text::room();
+    ask_all(&all[..n], &mut room);
 }
 
 // Goes through the lines.
-fn ask_all(all: &[u8]) {
+fn ask_all(all: &[u8], room: &mut [u8])
+    requires { ⌜ length (now room) ≡ mostText + 1 ⌝ }
+{
     let mut at = 0;
     while at < all.len() {
         let end = find(all, at, b'\n');
-        ask(&all[at..end]);
+        ask(&all[at..end], room);
         at = end + 1;
     }
 }
@@ -45,31 +51,55 @@ fn find(line: &[u8], from: usize, byte: u8) -> usize
     i
 }
 
-// Prints the name and the answer of one line.
-fn ask(line: &[u8]) {
+// Prints the name and the answers of one line.
+fn ask(line: &[u8], room: &mut [u8])
+    requires { ⌜ length (now room) ≡ mostText + 1 ⌝ }
+{
     let colon = find(line, 0, b':');
     io::write_all(1, &line[..colon]);
     io::write_all(1, b"\n");
-    let mut text = [9u8; TEXT];
-    let spelled = escapes::decode(&line[colon..], &mut text);
+    let spelled = escapes::decode(&line[colon..], room);
     let bytes = spelled.bytes;
     if !spelled.fine {
         io::write_all(
             1,
-            b"NO QUESTION: a line is NAME:TEXT, at most 5000 bytes, a backslash only in \\n \\t \\r \\\\ \\xHH\n\n",
+            b"NO QUESTION: a line is NAME:TEXT, at most 1,048,577 bytes, a backslash only in \\n \\t \\r \\\\ \\xHH, and \\z below 1,048,576\n\n",
         );
         return;
     }
-    let r = aiger::read(&text[..bytes]);
+    show_reading(&room[..bytes]);
+    show_output(room, bytes);
+    io::write_all(1, b"\n");
+}
+
+// Prints what is read of a text: the design, and before it the number of a refusal.
+fn show_reading(text: &[u8]) {
+    let r = aiger::read(text);
     let answer = r.answer;
-    match answer {
-        Answer::Accepted => show(r.design),
-        Answer::Refused(number) => {
-            io::write_all(1, b"REFUSED ");
-            io::print_decimal(1, number as u64);
-        }
+    if let Answer::Refused(number) = answer {
+        io::write_all(1, b"REFUSED ");
+        io::print_decimal(1, number as u64);
+        io::write_all(1, b" BESIDE ");
     }
-    io::write_all(1, b"\n\n");
+    show(r.design);
+    io::write_all(1, b"\n");
+}
+
+// Prints what `convert` writes of the first n bytes, and where: an image in hexadecimal, or a line as it is.
+fn show_output(room: &[u8], n: usize)
+    requires { ⌜ (length (now room) ≡ mostText + 1) × (n ≤ length (now room)) ⌝ }
+{
+    let mut out = [165u8; Image::MOST_BYTES];
+    let sent = converter::answer(room, n, &mut out);
+    let length = sent.length;
+    io::print_decimal(1, sent.stream as u64);
+    io::write_all(1, b" ");
+    if out[0] / 16 == 1 {
+        show_bytes(&out, length);
+        io::write_all(1, b"\n");
+        return;
+    }
+    io::write_all(1, &out[..length]);
 }
 
 // Prints the image of a design, written into a slice that held other things.

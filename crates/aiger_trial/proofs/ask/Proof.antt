@@ -29,9 +29,6 @@ part-decode-start c = search needs
 part-decode-end : tie.Need-part-decode-end
 part-decode-end c = search needs
 
-slice-aggregate-decode : tie.Need-slice-aggregate-decode
-slice-aggregate-decode c = search needs
-
 decode-requires : tie.Need-decode-requires
 decode-requires c κs = search needs
 
@@ -41,26 +38,23 @@ slice-aggregate-write-all-3 c = search needs
 write-all-requires-3 : tie.Need-write-all-requires-3
 write-all-requires-3 c κs = search needs
 
+same-length : tie.Need-same-length
+same-length c = search needs
+
 returns : tie.Need-returns
 returns c = search needs
 
-array-share-prefix-text : tie.Need-array-share-prefix-text
-array-share-prefix-text c = search needs
+slice-reshare-prefix-show-reading : tie.Need-slice-reshare-prefix-show-reading
+slice-reshare-prefix-show-reading c = search needs
 
-slice-aggregate-read : tie.Need-slice-aggregate-read
-slice-aggregate-read c = sym (length-take-le _ _ (c .before .before .before .before .decode .ensures))
+slice-aggregate-show-reading : tie.Need-slice-aggregate-show-reading
+slice-aggregate-show-reading c = sym (length-take-le _ _ (c .before .before .before .before .before .decode .ensures))
 
-read-requires : tie.Need-read-requires
-read-requires c κs = search needs
+show-reading-requires : tie.Need-show-reading-requires
+show-reading-requires c κs = search needs
 
-enum-told : tie.Need-enum-told
-enum-told c = search needs
-
-show-requires : tie.Need-show-requires
-show-requires c κs = search needs
-
-enum-known-answer : tie.Need-enum-known-answer
-enum-known-answer c = search needs
+show-output-requires : tie.Need-show-output-requires
+show-output-requires c κs = search needs
 
 slice-aggregate-write-all-4 : tie.Need-slice-aggregate-write-all-4
 slice-aggregate-write-all-4 c = search needs
@@ -68,17 +62,8 @@ slice-aggregate-write-all-4 c = search needs
 write-all-requires-4 : tie.Need-write-all-requires-4
 write-all-requires-4 c κs = search needs
 
-cast-print-decimal : tie.Need-cast-print-decimal
-cast-print-decimal c = search needs
-
-print-decimal-requires : tie.Need-print-decimal-requires
-print-decimal-requires c κs = search needs
-
-slice-aggregate-write-all-5 : tie.Need-slice-aggregate-write-all-5
-slice-aggregate-write-all-5 c = search needs
-
-write-all-requires-5 : tie.Need-write-all-requires-5
-write-all-requires-5 c κs = search needs
+same-length-2 : tie.Need-same-length-2
+same-length-2 c = search needs
 
 returns-2 : tie.Need-returns-2
 returns-2 c = search needs
@@ -95,21 +80,16 @@ ask-spec =
     sub-decode
     part-decode-start
     part-decode-end
-    slice-aggregate-decode
     decode-requires
     slice-aggregate-write-all-3
     write-all-requires-3
+    same-length
     returns
-    array-share-prefix-text
-    slice-aggregate-read
-    read-requires
-    enum-told
-    show-requires
-    enum-known-answer
+    slice-reshare-prefix-show-reading
+    slice-aggregate-show-reading
+    show-reading-requires
+    show-output-requires
     slice-aggregate-write-all-4
     write-all-requires-4
-    cast-print-decimal
-    print-decimal-requires
-    slice-aggregate-write-all-5
-    write-all-requires-5
+    same-length-2
     returns-2)

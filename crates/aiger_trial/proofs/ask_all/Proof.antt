@@ -1,15 +1,16 @@
 -- `ask_all`: a turn a line.
 use Prim.Native.Nat.{_-_}
+use mathlib.Core.Path.{_≡_}
 use lib.ListN.{length}
 use borrow.Author.Needs.{needs}
 use Rattle.aiger_trial.proofs.ask_all.Statement.{statement}
 use Rattle.aiger_trial.proofs.ask_all.Tie as tie
 
 abbrev Inv-loop : tie.InvT-loop
-Inv-loop all at₀ at = Unit {0}
+Inv-loop all room₀ at₀ room at = length room ≡ length room₀
 
 abbrev μ-loop : tie.MeasureT-loop
-μ-loop all at₀ at = length all - at
+μ-loop all room₀ at₀ room at = length all - at
 
 loop-holds : tie.Need-loop-holds Inv-loop μ-loop
 loop-holds c = search needs
@@ -38,6 +39,9 @@ loop-less c = search needs
 loop-again : tie.Need-loop-again Inv-loop μ-loop
 loop-again c = search needs
 
+same-length : tie.Need-same-length Inv-loop μ-loop
+same-length c = search needs
+
 returns : tie.Need-returns Inv-loop μ-loop
 returns c = search needs
 
@@ -56,4 +60,5 @@ ask-all-spec =
     add-at
     loop-less
     loop-again
+    same-length
     returns)

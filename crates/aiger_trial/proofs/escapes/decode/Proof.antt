@@ -19,11 +19,14 @@ written-more {n} {l₀} {l} x h w = record {
   fits = omega (arith, length-set l n x, h);
 }
 
+room-less : (n : ℕ) (l : List ℕ) (x : ℕ) → n < length l → length (set l n x) - (n + 1) < length l - n
+room-less n l x h = omega (arith, length-set l n x, h)
+
 abbrev Inv-loop : tie.InvT-loop
 Inv-loop spelled text₀ n₀ at₀ text n at = Written n text₀ text
 
 abbrev μ-loop : tie.MeasureT-loop
-μ-loop spelled text₀ n₀ at₀ text n at = length spelled - at
+μ-loop spelled text₀ n₀ at₀ text n at = length text - n
 
 loop-holds : tie.Need-loop-holds Inv-loop μ-loop
 loop-holds c = record { size = refl; fits = omega arith }
@@ -50,7 +53,7 @@ add-n : tie.Need-add-n Inv-loop μ-loop
 add-n c = search needs
 
 loop-less : tie.Need-loop-less Inv-loop μ-loop
-loop-less c = search needs
+loop-less c = room-less (c .before .before .before .before .before .loop .n) (c .before .before .before .before .before .loop .text) _ (search needs)
 
 loop-again : tie.Need-loop-again Inv-loop μ-loop
 loop-again c = written-more {l = c .before .before .before .before .before .loop .text} _ (search needs) (search needs)
