@@ -12,7 +12,7 @@ use Rattle.drawing.specs.declared.Drawing.{Drawing}
 use Rattle.drawing.specs.Meaning.Numbers.{numberAt, latchLine, outputLine, andLine, input, latch, next, shown, gate, first, second}
 use Rattle.aiger.specs.declared.body.Line.{Line}
 use Rattle.aiger.specs.declared.body.Line.the-variants.{Input, Latch, Output, And}
-use Rattle.aiger.specs.Meaning.Faults.{Own, Initial, LineFault, kindAt}
+use Rattle.aiger.specs.Meaning.Faults.{FirstFits, ThirdFits, LineFault, kindAt}
 use Rattle.drawing_sheet.specs.Meaning.Writing.{initial, linesOf, linesFor, Writable}
 use Rattle.drawing_sheet.proofs.Rows.{spell}
 use Rattle.drawing_sheet.proofs.Shapes.{used, one-held, three-held, fine-line}
@@ -78,13 +78,13 @@ module _ (d : Drawing) where
   lines-at j h = ap (λ (l : List (List ℕ)). getD l j []) (sym listed) ∙ getD-listOf (linesFor d) lineFor [] j h
 
   module _ (w : Writable d) where
-    own-right : {j : ℕ} {k : Line} → Place d j k → Own k (numberAt d j 0)
+    own-right : {j : ℕ} {k : Line} → Place d j k → FirstFits k (numberAt d j 0)
     own-right {j} (Place.of-input h) = w .inputs j h
     own-right (Place.of-latch k h e) = rw e (w .latches k h)
     own-right (Place.of-output k h e) = tt
     own-right (Place.of-and i h e) = rw e (w .gates i h)
 
-    initial-right : {j : ℕ} {k : Line} → Place d j k → Initial k (numberAt d j 2) (numberAt d j 0)
+    initial-right : {j : ℕ} {k : Line} → Place d j k → ThirdFits k (numberAt d j 2) (numberAt d j 0)
     initial-right (Place.of-input h) = tt
     initial-right (Place.of-latch k h e) = rw e (w .initials k h)
     initial-right (Place.of-output k h e) = tt

@@ -19,7 +19,7 @@ use Rattle.aiger.specs.declared.body.Line.{Line}
 use Rattle.aiger.specs.declared.body.Line.the-variants.{Input, Latch, Output}
 use Rattle.lines.specs.Meaning.Spelling.{wordsAt, onward, value}
 use Rattle.aiger.specs.Meaning.Format.{numberIn, inputsIn, latchesIn, outputsIn, linesIn, mostNumbers, entryIn, numbersIn, drawingIn}
-use Rattle.aiger.specs.Meaning.Faults.{EvenAbove0, Counts, Initial, LineFault, kindIn, TextFault, header, whole}
+use Rattle.aiger.specs.Meaning.Faults.{EvenAbove0, HasNumbers, ThirdFits, LineFault, kindIn, TextFault, header, whole}
 use Rattle.aiger.proofs.Accepted.{spelled-drawing}
 use Rattle.drawing_sheet.specs.Meaning.Writing.{textOf, Writable, Spells}
 use Rattle.drawing_sheet.proofs.Places.{kind-input, kind-latch, kind-output}
@@ -69,7 +69,7 @@ module _ (t : List ℕ) (small : TextFault t (header 3) → ⊥) (right : TextFa
       go (no l) = List·getD-eq-default (numbersIn t) 0 {n = e} (rw (length-listOf mostNumbers place) (omega arith))
 
   -- a line of one number
-  single : (k : Line) → ((n : ℕ) → Counts k n → n ≡ 1) → (j : ℕ) → j < linesIn t → kindIn t j ≡ k → (i : ℕ) → 0 < i → i < 3 → getD (numbersIn t) (3 * j + i) 0 ≡ 0
+  single : (k : Line) → ((n : ℕ) → HasNumbers k n → n ≡ 1) → (j : ℕ) → j < linesIn t → kindIn t j ≡ k → (i : ℕ) → 0 < i → i < 3 → getD (numbersIn t) (3 * j + i) 0 ≡ 0
   single k f j h e i a l =
       let n = stable (length (wordsAt t (1 + j))) 1 (λ g. right (TextFault.line j h (LineFault.count (λ c. g (f _ (rw e at c)))))) in
       stored j i h l ∙ value-beyond (wordsAt t (1 + j)) n i a
@@ -97,16 +97,16 @@ module _ (t : List ℕ) (small : TextFault t (header 3) → ⊥) (right : TextFa
     latch : kindIn t j ≡ Latch
     latch = kind-latch (inputsIn t) (latchesIn t) (outputsIn t) j (omega arith) (omega arith)
 
-    neither : (x ≤ 1 → ⊥) → (x ≡ o → ⊥) → Initial Latch x o → ⊥
+    neither : (x ≤ 1 → ⊥) → (x ≡ o → ⊥) → ThirdFits Latch x o → ⊥
     neither a b (inl e) = a e
     neither a b (inr e) = b e
 
-    one-of : Dec (x ≤ 1) → Dec (x ≡ o) → Initial Latch x o
+    one-of : Dec (x ≤ 1) → Dec (x ≡ o) → ThirdFits Latch x o
     one-of (yes a) b = inl a
     one-of (no a) (yes b) = inr b
     one-of (no a) (no b) = absurd (right (TextFault.line j below (LineFault.initial (λ q. neither a b (rw latch at q)))))
 
-    initials : Initial Latch (getD (numbersIn t) (3 * j + 2) 0) (getD (numbersIn t) (3 * j + 0) 0)
+    initials : ThirdFits Latch (getD (numbersIn t) (3 * j + 2) 0) (getD (numbersIn t) (3 * j + 0) 0)
     initials = rw (stored j 2 below (omega arith), stored j 0 below (omega arith)) (one-of (decLe x 1) (ℕ-discrete x o))
 
   pub read-writable : Writable (drawingIn t)

@@ -8,7 +8,7 @@ use lib.ListN.{length, getD}
 use Rattle.aiger.specs.declared.body.Line.{Line}
 use Rattle.aiger.specs.declared.body.Line.the-variants.{Input, Latch, Output, And}
 use Rattle.lines.specs.Meaning.Spelling.{value}
-use Rattle.aiger.specs.Meaning.Faults.{Counts, Own, Initial, LineFault}
+use Rattle.aiger.specs.Meaning.Faults.{HasNumbers, FirstFits, ThirdFits, LineFault}
 use Rattle.drawing_sheet.proofs.Numerals.{decimal-value}
 use Rattle.drawing_sheet.proofs.Rows.{spell, spell-value, spell-numeral}
 
@@ -40,7 +40,7 @@ three-held f (suc (suc (suc i))) h = absurd (omega arith)
 
 -- a line with these numbers is spelled by the format where its places are literals, its own literal and its initial value right
 module _ (m : ℕ) (f : ℕ → ℕ) (low : (i : ℕ) → f i ≤ 2 * m + 1) where
-  counted : (k : Line) → Counts k (length (spell (used k f)))
+  counted : (k : Line) → HasNumbers k (length (spell (used k f)))
   counted Input = refl
   counted Latch = (omega arith, omega arith)
   counted Output = refl
@@ -62,19 +62,19 @@ module _ (m : ℕ) (f : ℕ → ℕ) (low : (i : ℕ) → f i ≤ 2 * m + 1) whe
   used-low Output = one
   used-low And = three
 
-  own-read : (k : Line) → Own k (f 0) → Own k (value (getD (spell (used k f)) 0 []))
+  own-read : (k : Line) → FirstFits k (f 0) → FirstFits k (value (getD (spell (used k f)) 0 []))
   own-read Input o = rw (decimal-value (f 0)) o
   own-read Latch o = rw (decimal-value (f 0)) o
   own-read Output o = tt
   own-read And o = rw (decimal-value (f 0)) o
 
-  initial-read : (k : Line) → Initial k (f 2) (f 0) → Initial k (value (getD (spell (used k f)) 2 [])) (value (getD (spell (used k f)) 0 []))
+  initial-read : (k : Line) → ThirdFits k (f 2) (f 0) → ThirdFits k (value (getD (spell (used k f)) 2 [])) (value (getD (spell (used k f)) 0 []))
   initial-read Input o = tt
   initial-read Latch o = rw (decimal-value (f 2), decimal-value (f 0)) o
   initial-read Output o = tt
   initial-read And o = tt
 
-  pub fine-line : (k : Line) → Own k (f 0) → Initial k (f 2) (f 0) → LineFault m k (spell (used k f)) → ⊥
+  pub fine-line : (k : Line) → FirstFits k (f 0) → ThirdFits k (f 2) (f 0) → LineFault m k (spell (used k f)) → ⊥
   fine-line k o s (LineFault.missing e) = let z : 0 < length (spell (used k f)) = rw (some-used k f .1) (omega arith) in omega (arith, ap length e)
   fine-line k o s (LineFault.count h) = h (counted k)
   fine-line k o s (LineFault.spelling i h e) = true≢false (sym (spell-numeral (used k f) i h) ∙ e)

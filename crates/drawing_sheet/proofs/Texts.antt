@@ -28,7 +28,7 @@ use Rattle.aiger.specs.declared.body.Line.{Line}
 use Rattle.aiger.specs.declared.body.Line.the-variants.{Input, Latch, Output, And}
 use Rattle.lines.specs.Meaning.Spelling.{wordsAt, numeral, value}
 use Rattle.aiger.specs.Meaning.Format.{aag, wordAt, highestIn, inputsIn, latchesIn, outputsIn, andsIn, linesIn, drawingIn}
-use Rattle.aiger.specs.Meaning.Faults.{Counts, Own, Initial, LineFault, kindIn, Part, header, whole, order, numberOf, TextFault}
+use Rattle.aiger.specs.Meaning.Faults.{HasNumbers, FirstFits, ThirdFits, LineFault, kindIn, Part, header, whole, order, numberOf, TextFault}
 use Rattle.aiger.proofs.Determined.{Listed, listed}
 
 -- the header line
@@ -62,7 +62,7 @@ countTest Latch n = leb 2 n && leb n 3
 countTest Output n = eqb n 1
 countTest And n = eqb n 3
 
-counts : (k : Line) (n : ℕ) → T (countTest k n) → Counts k n
+counts : (k : Line) (n : ℕ) → T (countTest k n) → HasNumbers k n
 counts Input n t = eqb→eq n 1 t
 counts Latch n t = (leb→le 2 n (and-left (leb 2 n) (leb n 3) t), leb→le n 3 (and-right (leb 2 n) (leb n 3) t))
 counts Output n t = eqb→eq n 1 t
@@ -77,7 +77,7 @@ ownTest Latch x = evenTest x
 ownTest Output x = true
 ownTest And x = evenTest x
 
-own-of : (k : Line) (x : ℕ) → T (ownTest k x) → Own k x
+own-of : (k : Line) (x : ℕ) → T (ownTest k x) → FirstFits k x
 own-of Input x t = record { even = eqb→eq (x % 2) 0 (and-left (eqb (x % 2) 0) (ltb 0 x) t); above = ltb→lt 0 x (and-right (eqb (x % 2) 0) (ltb 0 x) t) }
 own-of Latch x t = record { even = eqb→eq (x % 2) 0 (and-left (eqb (x % 2) 0) (ltb 0 x) t); above = ltb→lt 0 x (and-right (eqb (x % 2) 0) (ltb 0 x) t) }
 own-of Output x t = tt
@@ -89,7 +89,7 @@ initialTest Latch x o = leb x 1 || eqb x o
 initialTest Output x o = true
 initialTest And x o = true
 
-initial-of : (k : Line) (x o : ℕ) → T (initialTest k x o) → Initial k x o
+initial-of : (k : Line) (x o : ℕ) → T (initialTest k x o) → ThirdFits k x o
 initial-of Input x o t = tt
 initial-of Latch x o t = ⊎-elim (λ a. inl (leb→le x 1 a)) (λ b. inr (eqb→eq x o b)) (or-split (leb x 1) (eqb x o) t)
 initial-of Output x o t = tt
@@ -113,17 +113,17 @@ module _ (m : ℕ) (k : Line) (ws : List (List ℕ)) (t : T (lineTest m k ws)) w
   last : T (ownTest k (value (getD ws 0 [])) && initialTest k (value (getD ws 2 [])) (value (getD ws 0 [])))
   last = and-right (every (λ i. wordTest m (getD ws i [])) (length ws)) _ rest
 
-  some-counts : Counts k 0 → ⊥
+  some-counts : HasNumbers k 0 → ⊥
   some-counts c = go k c
     where
-      go : (k : Line) → Counts k 0 → ⊥
+      go : (k : Line) → HasNumbers k 0 → ⊥
       go Input c = omega arith
       go Latch c = omega (arith, c .0)
       go Output c = omega arith
       go And c = omega arith
 
   fine-line : LineFault m k ws → ⊥
-  fine-line (LineFault.missing e) = some-counts (subst (λ (n : ℕ). Counts k n) (ap length e) (counts k (length ws) (and-left (countTest k (length ws)) _ t)))
+  fine-line (LineFault.missing e) = some-counts (subst (λ (n : ℕ). HasNumbers k n) (ap length e) (counts k (length ws) (and-left (countTest k (length ws)) _ t)))
   fine-line (LineFault.count f) = f (counts k (length ws) (and-left (countTest k (length ws)) _ t))
   fine-line (LineFault.spelling i h e) = holds (numeral (getD ws i [])) (and-left (numeral (getD ws i [])) _ (word i h)) e
   fine-line (LineFault.above i h l) = not-lt (leb→le _ _ (and-right (numeral (getD ws i [])) (leb (value (getD ws i [])) (2 * m + 1)) (word i h))) l

@@ -2,7 +2,7 @@
 use mathlib.Core.Logic.{inl, inr, ⊎-elim}
 use native.Mathlib.Omega.{arith}
 use Rattle.aiger.specs.declared.body.Line.the-variants.{Latch}
-use Rattle.aiger.specs.Meaning.Faults.{Initial}
+use Rattle.aiger.specs.Meaning.Faults.{ThirdFits}
 use Rattle.aiger.specs.Working.Bodies.{Unfit}
 use Rattle.aiger.proofs.Bodies.{fits-own}
 use borrow.Author.Needs.{needs}
@@ -24,7 +24,7 @@ is-own-requires c κs = search needs
 returns-4 : tie.Need-returns-4
 returns-4 c =
     let r = c .before .before .before .before .before .before .before .args .r in
-    let i : Initial Latch (r .third) (r .first) = ⊎-elim (λ w. inr (w .2 .left)) (λ w. inl (omega (arith, w .left))) (c .before .if3 .came) in
+    let i : ThirdFits Latch (r .third) (r .first) = ⊎-elim (λ w. inr (w .2 .left)) (λ w. inl (omega (arith, w .left))) (c .before .if3 .came) in
     fits-own (c .is-own .result) Latch (r .count) (r .first) (r .third) (omega arith, omega arith) i (λ o. o) (λ o. o) (c .is-own .ensures)
 
 pub latch-fits-spec : {M : Type 1} → statement M
