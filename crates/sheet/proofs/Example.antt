@@ -10,6 +10,7 @@ use Rattle.numbers.specs.Meaning.Bits.{horner}
 use Rattle.numbers.specs.Meaning.Count.{count}
 use Rattle.memory.specs.Meaning.Refusals.{Free}
 use Rattle.memory.specs.Meaning.Slices.{ZeroFrom}
+use Rattle.memory.proofs.Computed.{passes}
 use Rattle.netlist.specs.declared.Design.{Design}
 use Rattle.netlist.specs.Meaning.Faults.{Accepted}
 use Rattle.image.specs.Meaning.Format.{bitAt, fieldAt, decoded}
@@ -35,7 +36,7 @@ use Rattle.align_report.proofs.Determined.{closed}
 use Rattle.align_report.proofs.Refusals.{table-most, pairs-most}
 use Rattle.sheet.specs.Meaning.Sheet.{imageP, imageQ, FoundSame}
 use Rattle.sheet.specs.Meaning.Example.{Example}
-use Rattle.sheet.proofs.Testing.{passes, fieldTests, clean-7}
+use Rattle.sheet.proofs.Testing.{fieldTests, clean-7}
 use Rattle.sheet.proofs.Images.{p-drawn, q-drawn}
 use Rattle.sheet.proofs.Models.{takes, inverts, two, pair, zero-fed, pq-set}
 use Rattle.sheet.proofs.Models as M
