@@ -73,7 +73,7 @@ module _ {a b : Design} {n : TablesLent} {s : Lent} {next0 out0 next1 out1 : Lis
       let k = w .keeps .1 .decided .sought in
       let x = subst (λ (y : Sizes). take r text′ ≡ apartIn (bothTables y next0 out0 next1 out1) f p (take m (e .written))) same (q .is) in
       record {
-        answers = AnswersDesigns.found-apart (w .keeps .0) f facts p m (w .keeps .1 .decided) (x ∙ apart-there f (take m (e .written)) (k .lowest .inside) (k .trace .has .allowed));
+        answers = AnswersDesigns.found-apart (w .keeps .0) f facts p m (w .keeps .1 .decided) (x ∙ apart-there f (take m (e .written)) (k .lowest .inside) (k .trace .shortest .has .allowed));
         counts = q .counts;
         kept = w .tidy .written;
       }

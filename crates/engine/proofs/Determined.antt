@@ -15,7 +15,7 @@ use Rattle.machine.specs.declared.Found.{Found}
 use Rattle.machine.specs.declared.Pair.{Pair}
 use Rattle.machine.specs.declared.Sizes.{Sizes}
 use Rattle.machine.specs.Meaning.Tables.{Tables, pairs, Flag, holds, fails, AlikeIn, AlignableIn, TraceIn, ListIn}
-use Rattle.machine.proofs.Order.{first-unique}
+use Rattle.machine.proofs.Pick.{picked-unique}
 use Rattle.machine.proofs.Lent.{same-left}
 use Rattle.machine.proofs.Rounds.{round-unique}
 use Rattle.machine.specs.Working.Pairs.{pairAt}
@@ -147,7 +147,7 @@ module _ (t : Tables) (s : Lent) (e f : Left) where
         (sym (of-found r) ∙ ap foundOf (both .0) ∙ of-found u, both .1)
 
     pub finds-trace-unique : (r u : Found) → FindsTrace t s p e r → FindsTrace t s p f u → (r ≡ u) × (e ≡ f)
-    finds-trace-unique r u x y = finds-unique (AlikeIn t p) (TraceIn t p) (λ a b g h. first-unique g h) r u x y
+    finds-trace-unique r u x y = finds-unique (AlikeIn t p) (TraceIn t p) (λ a b g h. picked-unique g h) r u x y
 
     pub finds-list-unique : (r u : Found) → FindsList t s p e r → FindsList t s p f u → (r ≡ u) × (e ≡ f)
-    finds-list-unique r u x y = finds-unique (AlignableIn t p → ⊥) (ListIn t p) (λ a b g h. first-unique g h) r u x y
+    finds-list-unique r u x y = finds-unique (AlignableIn t p → ⊥) (ListIn t p) (λ a b g h. picked-unique g h) r u x y

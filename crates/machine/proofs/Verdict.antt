@@ -14,7 +14,7 @@ use Rattle.machine.specs.Meaning.Machine.{Machine, step, Alike, IsTrace}
 use Rattle.machine.specs.Meaning.Tables.{number, In, Ok}
 use Rattle.machine.specs.Meaning.Verdict.{May, LowestOpen, Rounds, done, more, LowestApart, IsSame, IsApart, VerdictList, same, apart}
 use Rattle.machine.specs.Working.Pairs.{Closed}
-use Rattle.machine.proofs.Order.{first-unique}
+use Rattle.machine.proofs.Pick.{picked-unique}
 use Rattle.machine.proofs.Lists.{each-append, run-in}
 use Rattle.machine.proofs.Numbers.{number-inj}
 
@@ -29,7 +29,7 @@ module _ (m0 m1 : Machine) (z : Sizes) where
   -- the rounds append only allowed vectors, and take none away
   pub rounds-allowed : (r l : List ℕ) → Rounds m0 m1 z r l → Each (Ok z) l → Each (Ok z) r
   rounds-allowed r l (done q a) o = subst (Each (Ok z)) (sym q) o
-  rounds-allowed r l (more p g m f k) o = rounds-allowed r (l ++ m) k (each-append (Ok z) l m o (f .has .allowed))
+  rounds-allowed r l (more p g m f k) o = rounds-allowed r (l ++ m) k (each-append (Ok z) l m o (f .shortest .has .allowed))
 
   pub rounds-extend : (r l : List ℕ) → Rounds m0 m1 z r l → length l ≤ length r
   rounds-extend r l (done q a) = omega (arith, ap length q)
@@ -59,8 +59,8 @@ module _ (m0 m1 : Machine) (z : Sizes) where
     rounds-unique r s l o (more x g m f k) (done q b) = absurd (g .open′ (b x (g .may)))
     rounds-unique r s l o (more x g m f k) (more y h n f′ j) =
         let p = open-unique l o x y g h in
-        let q : m ≡ n = first-unique f (rw (sym p) at f′) in
-        rounds-unique r s (l ++ m) (each-append (Ok z) l m o (f .has .allowed)) k (rw (sym q) at j)
+        let q : m ≡ n = picked-unique f (rw (sym p) at f′) in
+        rounds-unique r s (l ++ m) (each-append (Ok z) l m o (f .shortest .has .allowed)) k (rw (sym q) at j)
 
     -- Same and Apart exclude each other, and each has one list
     pub same-unique : (a b : List ℕ) → IsSame m0 m1 z a → IsSame m0 m1 z b → a ≡ b
@@ -70,7 +70,7 @@ module _ (m0 m1 : Machine) (z : Sizes) where
   same-not-apart l m p s a = a .lowest .apart (s .all .all p (a .lowest .inside))
 
   pub trace-unique : (p q : Pair) (a b : List ℕ) → IsApart m0 m1 z p a → IsApart m0 m1 z q b → a ≡ b
-  trace-unique p q a b x y = first-unique (x .trace) (subst (λ (k : Pair). IsTrace m0 m1 (Ok z) k b) (sym (apart-unique p q (x .lowest) (y .lowest))) (y .trace))
+  trace-unique p q a b x y = picked-unique (x .trace) (subst (λ (k : Pair). IsTrace m0 m1 (Ok z) k b) (sym (apart-unique p q (x .lowest) (y .lowest))) (y .trace))
 
   -- what is written is one list
   pub written-unique : Closed m0 m1 z → (a b : List ℕ) → VerdictList m0 m1 z a → VerdictList m0 m1 z b → a ≡ b

@@ -1,3 +1,4 @@
 -- Definitions that only private contracts and proofs cite.
+pub mod Order
 pub mod Maps
 pub mod Pairs

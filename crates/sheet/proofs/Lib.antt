@@ -6,3 +6,4 @@ pub mod Carried
 pub mod Sheet
 pub mod Readings
 pub mod Example
+pub mod Toggles

@@ -2,3 +2,4 @@
 pub mod Sheet
 pub mod Readings
 pub mod Example
+pub mod Toggles

@@ -126,7 +126,7 @@ module _ (t : Tables) where
             -- no room for this pair's list: the list of the rounds is no shorter than what is written and this
             pub no-room : AllAlignIn t → Zero list₀ → {on cleared : List ℕ} {k : ℕ} → Appended t p len list on (Found.Refused k) → length on ≡ length list → Cleared (length on) cleared → Outcome ⊥ (SameIn t) list₀ cleared (Found.Refused 16)
             no-room all o (full part f l) k c =
-                let r = rounds-exist m0 m1 z (inside t (m .good)) all (take len list ++ part) (each-append (Ok z) (take len list) part (w .ok) (f .has .allowed)) in
+                let r = rounds-exist m0 m1 z (inside t (m .good)) all (take len list ++ part) (each-append (Ok z) (take len list) part (w .ok) (f .shortest .has .allowed)) in
                 short (λ x. x) (r .0) (record { all = all; rounds = w .joins (r .0) (more p lowest part f (r .1)) })
                 (omega (arith, rounds-extend m0 m1 z (r .0) (take len list ++ part) (r .1), length-append (take len list) part, length-take-le len list (w .under), w .long))
                 (zero-unique _ list₀ (c .size ∙ k ∙ w .long) (c .zero) o)
@@ -136,7 +136,7 @@ module _ (t : Tables) where
               added-fits = omega (arith, a .fits, a .long)
 
               pub part-below : (j : ℕ) → len ≤ j → j < len + k → getD on j 0 < z .vectors
-              part-below = slice-at (λ v. v < z .vectors) on len (len + k) added-fits (rw (a .slices) (below-all t (a .part) (a .its-list .has .allowed)))
+              part-below = slice-at (λ v. v < z .vectors) on len (len + k) added-fits (rw (a .slices) (below-all t (a .part) (a .its-list .shortest .has .allowed)))
 
               pub falls : unaligned m0 m1 z (λ p. eqb (at z depth p) 0) (take (len + k) on) < unaligned m0 m1 z (λ p. eqb (at z depth p) 0) (take len list)
               falls = rw (a .joins) (unaligned-falls m0 m1 z (inside t (m .good)) (λ p. eqb (at z depth p) 0) tells (take len list) (a .part) (w .ok) p (lowest .may) (lowest .open′) (a .its-list .has))
@@ -145,7 +145,7 @@ module _ (t : Tables) where
               aligning-more {next0} {next1} i0 i1 = record {
                 long = a .long ∙ w .long;
                 under = added-fits;
-                ok = rw (a .joins) (each-append (Ok z) (take len list) (a .part) (w .ok) (a .its-list .has .allowed));
+                ok = rw (a .joins) (each-append (Ok z) (take len list) (a .part) (w .ok) (a .its-list .shortest .has .allowed));
                 after0 = rw (a .joins) (after-more (m0 .next) (z .old) (take len list) (a .part) marks0 next0 (λ s b. run-under leading-old s (take len list) b (below-all t (take len list) (w .ok))) (w .after0) (rw (a .slices) at i0));
                 after1 = rw (a .joins) (after-more (m1 .next) (z .new) (take len list) (a .part) marks1 next1 (λ s b. run-under leading-new s (take len list) b (below-all t (take len list) (w .ok))) (w .after1) (rw (a .slices) at i1));
                 joins = rw (a .joins) (λ r x. w .joins r (more p lowest (a .part) (a .its-list) x));

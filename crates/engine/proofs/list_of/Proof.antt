@@ -1,6 +1,6 @@
 -- `list_of`: turned away with cleared slices, or what `write_list` leaves.
 use native.Mathlib.Omega.{arith}
-use Rattle.machine.proofs.Order.{first-unique}
+use Rattle.machine.proofs.Pick.{picked-unique}
 use Rattle.seek.proofs.Refusals.{good, room-enough}
 use Rattle.engine.proofs.Clearing.{tidy-of}
 use Rattle.engine.proofs.Finds.{lowest-state, free-call, free-in, keeps-outcome}
@@ -45,7 +45,7 @@ returns-2 : tie.Need-returns-2
 returns-2 c =
     let e = c .before .before .before .before .before .before .before .before .before .before .before .before .before .before .before .before .before .open-pair .ensures .1 in
     record {
-      keeps = keeps-outcome _ _ _ _ _ (c .before .before .before .before .before .before .before .before .before .before .before .before .before .before .before .before .before .open-pair .ensures .0 .none (c .before .before .before .before .before .before .before .before .before .before .if1 .left)) (λ a b x y. first-unique x y) (c .before .before .before .before .before .before .write-list .ensures .0) (e .written .size) (search needs) (e .written .zero);
+      keeps = keeps-outcome _ _ _ _ _ (c .before .before .before .before .before .before .before .before .before .before .before .before .before .before .before .before .before .open-pair .ensures .0 .none (c .before .before .before .before .before .before .before .before .before .before .if1 .left)) (λ a b x y. picked-unique x y) (c .before .before .before .before .before .before .write-list .ensures .0) (e .written .size) (search needs) (e .written .zero);
       tidy = record { depth = rw (e .depth .size) at (c .before .before .before .before .before .before .write-list .ensures .1 .0); reach = rw (e .reach .size) at (c .before .before .before .before .before .before .write-list .ensures .1 .1); written = search needs };
     }
 

@@ -1,0 +1,48 @@
+-- What request 2 picks, on small machines: "At the bench each list is set on toggle switches."
+--   merges   four states, each shown; vector 0 leads states 0 to 3 to 2, 1, 0, 0, and vector 1 leads them to 2, 2, 3, 3
+--   wakes    four states; vector 0 stays, vector 1 leads states 0 and 1 to 2 and 3; only state 3 shows 1
+--   fours    the sizes of two such machines, with two vectors
+--   Toggles  what is picked where one of these machines stands beside itself
+use Prim.Native.Nat.{ℕ, zero, suc, _+_, _-_, _*_, _/_}
+use mathlib.Core.List.{List, [], _∷_}
+use Rattle.machine.specs.declared.Pair.{Pair}
+use Rattle.machine.specs.declared.Sizes.{Sizes}
+use Rattle.machine.specs.Meaning.Lists.{Leads}
+use Rattle.machine.specs.Meaning.Machine.{Machine, step, Alike, Shows, IsTrace, IsList}
+use Rattle.machine.specs.Meaning.Tables.{Ok}
+use Rattle.machine.specs.Meaning.Verdict.{IsSame}
+
+abbrev pub merged : ℕ → ℕ → ℕ
+merged s zero = 2 - s
+merged s (suc v) = 2 + s / 2
+
+abbrev pub merges : Machine
+merges = record { next = merged; out = λ s v. s }
+
+abbrev pub wakes : Machine
+wakes = record { next = λ s v. s + 2 * v; out = λ s v. s / 3 }
+
+abbrev pub fours : Sizes
+fours = record { old = 4; new = 4; vectors = 2 }
+
+abbrev pub both : ℕ → ℕ → Pair
+both s0 s1 = record { old = s0; new = s1 }
+
+abbrev pub Aligns : Pair → List ℕ → Type 0
+Aligns p l = Leads (step merges merges) (Ok fours) (Alike merges merges (Ok fours)) p l
+
+pub record Toggles : Type 0 where
+  -- "each step shall keep the vector of the step before": 1 0 would do as well, and has the lower vector
+  pub kept : IsList merges merges (Ok fours) (both 0 2) (1 ∷ 1 ∷ [])
+  pub lower-aligns : Aligns (both 0 2) (1 ∷ 0 ∷ [])
+  -- "whenever one of those lists goes on with it": step by step, and not with the fewest changes. 1 1 would do as well, and never changes
+  pub greedy : IsList merges merges (Ok fours) (both 1 3) (0 ∷ 1 ∷ [])
+  pub unchanged-aligns : Aligns (both 1 3) (1 ∷ 1 ∷ [])
+  -- "a first step takes the lowest"
+  pub own : IsList merges merges (Ok fours) (both 2 3) (0 ∷ [])
+  -- "In a verdict's list the last vector of a round counts as the step before the next round": 1 aligns the states 0 and 1, then the pair
+  -- of 2 and 3 is open, which takes 0 by itself and 1 behind a 1
+  pub rounds : IsSame merges merges fours (1 ∷ 1 ∷ [])
+  -- "each step", the last one of a trace too: 1 0 would show it as well
+  pub trace : IsTrace wakes wakes (Ok fours) (both 0 1) (1 ∷ 1 ∷ [])
+  pub lower-shows : Shows wakes wakes (Ok fours) (both 0 1) (1 ∷ 0 ∷ [])
