@@ -36,7 +36,7 @@ aligns-one : (p : Pair) (v : ℕ) → Ok fours v → merged (p .old) v ≡ merge
 aligns-one p v o e = record { allowed = (o, tt); ends = equal-alike (step merges merges p v) e }
 
 aligns-two : (p : Pair) (v w : ℕ) → Ok fours v → Ok fours w → merged (merged (p .old) v) w ≡ merged (merged (p .new) v) w → Aligns p (v ∷ w ∷ [])
-aligns-two p v w o u e = record { allowed = (o, u, tt); ends = equal-alike (step merges merges (step merges merges p v) w) e }
+aligns-two p v w o u e = record { allowed = (o, (u, tt)); ends = equal-alike (step merges merges (step merges merges p v) w) e }
 
 -- where no step aligns a pair, two steps are the fewest
 module _ (p : Pair) (now : Alike merges merges (Ok fours) p → ⊥) (next : (v : ℕ) → Aligns p (v ∷ []) → ⊥) where
@@ -148,5 +148,5 @@ toggles = record {
   own = own;
   rounds = rounds;
   trace = trace;
-  lower-shows = record { allowed = (fed-1, fed-0, tt); before = 1 ∷ []; last = 0; splits = refl; differs = λ e. omega (arith, e) };
+  lower-shows = record { allowed = (fed-1, (fed-0, tt)); before = 1 ∷ []; last = 0; splits = refl; differs = λ e. omega (arith, e) };
 }

@@ -139,7 +139,7 @@ module _ (t : Tables) where
               part-below = slice-at (λ v. v < z .vectors) on len (len + k) added-fits (rw (a .slices) (below-all t (a .part) (a .its-list .shortest .has .allowed)))
 
               pub falls : unaligned m0 m1 z (λ p. eqb (at z depth p) 0) (take (len + k) on) < unaligned m0 m1 z (λ p. eqb (at z depth p) 0) (take len list)
-              falls = rw (a .joins) (unaligned-falls m0 m1 z (inside t (m .good)) (λ p. eqb (at z depth p) 0) tells (take len list) (a .part) (w .ok) p (lowest .may) (lowest .open′) (a .its-list .has))
+              falls = rw (a .joins) (unaligned-falls m0 m1 z (inside t (m .good)) (λ p. eqb (at z depth p) 0) tells (take len list) (a .part) (w .ok) p (lowest .may) (lowest .open′) (a .its-list .shortest .has))
 
               pub aligning-more : {next0 next1 : List Bool} → Image (λ x. run (m0 .next) x (slice len (len + k) on)) (z .old) marks0 next0 → Image (λ x. run (m1 .next) x (slice len (len + k) on)) (z .new) marks1 next1 → Aligning list₀ on (len + k) next0 next1
               aligning-more {next0} {next1} i0 i1 = record {
