@@ -7,10 +7,10 @@ use Rattle.brute_engine.proofs.lists.try_each.Statement.{statement}
 use Rattle.brute_engine.proofs.lists.try_each.Tie as tie
 
 abbrev Inv-loop : tie.InvT-loop
-Inv-loop j sought last list₀ ends₀ steps₀ lists₀ counter₀ list ends steps lists counter = (length list ≡ length list₀) × (length ends ≡ length ends₀) × (length steps ≡ length steps₀) × (length lists ≡ length lists₀)
+Inv-loop j sought last list₀ ends₀ steps₀ counter₀ list ends steps counter = (length list ≡ length list₀) × (length ends ≡ length ends₀) × (length steps ≡ length steps₀)
 
 abbrev μ-loop : tie.MeasureT-loop
-μ-loop j sought last list₀ ends₀ steps₀ lists₀ counter₀ list ends steps lists counter = 43046722 - counter
+μ-loop j sought last list₀ ends₀ steps₀ counter₀ list ends steps counter = 43046722 - counter
 
 loop-holds : tie.Need-loop-holds Inv-loop μ-loop
 loop-holds c = search needs
@@ -30,23 +30,17 @@ same-length-2 c = search needs
 same-length-3 : tie.Need-same-length-3 Inv-loop μ-loop
 same-length-3 c = search needs
 
-same-length-4 : tie.Need-same-length-4 Inv-loop μ-loop
-same-length-4 c = search needs
-
 returns : tie.Need-returns Inv-loop μ-loop
 returns c = search needs
+
+same-length-4 : tie.Need-same-length-4 Inv-loop μ-loop
+same-length-4 c = search needs
 
 same-length-5 : tie.Need-same-length-5 Inv-loop μ-loop
 same-length-5 c = search needs
 
 same-length-6 : tie.Need-same-length-6 Inv-loop μ-loop
 same-length-6 c = search needs
-
-same-length-7 : tie.Need-same-length-7 Inv-loop μ-loop
-same-length-7 c = search needs
-
-same-length-8 : tie.Need-same-length-8 Inv-loop μ-loop
-same-length-8 c = search needs
 
 returns-2 : tie.Need-returns-2 Inv-loop μ-loop
 returns-2 c = search needs
@@ -63,17 +57,14 @@ loop-less c = search needs
 loop-again : tie.Need-loop-again Inv-loop μ-loop
 loop-again c = search needs
 
+same-length-7 : tie.Need-same-length-7 Inv-loop μ-loop
+same-length-7 c = search needs
+
+same-length-8 : tie.Need-same-length-8 Inv-loop μ-loop
+same-length-8 c = search needs
+
 same-length-9 : tie.Need-same-length-9 Inv-loop μ-loop
 same-length-9 c = search needs
-
-same-length-10 : tie.Need-same-length-10 Inv-loop μ-loop
-same-length-10 c = search needs
-
-same-length-11 : tie.Need-same-length-11 Inv-loop μ-loop
-same-length-11 c = search needs
-
-same-length-12 : tie.Need-same-length-12 Inv-loop μ-loop
-same-length-12 c = search needs
 
 returns-3 : tie.Need-returns-3 Inv-loop μ-loop
 returns-3 c = search needs
@@ -90,19 +81,16 @@ try-each-spec =
     same-length
     same-length-2
     same-length-3
-    same-length-4
     returns
+    same-length-4
     same-length-5
     same-length-6
-    same-length-7
-    same-length-8
     returns-2
     run-on-requires
     add-counter
     loop-less
     loop-again
+    same-length-7
+    same-length-8
     same-length-9
-    same-length-10
-    same-length-11
-    same-length-12
     returns-3)

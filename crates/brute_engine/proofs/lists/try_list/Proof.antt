@@ -7,10 +7,10 @@ use Rattle.brute_engine.proofs.lists.try_list.Statement.{statement}
 use Rattle.brute_engine.proofs.lists.try_list.Tie as tie
 
 abbrev Inv-loop : tie.InvT-loop
-Inv-loop j sought last list ends steps₀ lists₀ without₀ p₀ p-end steps lists without p = (length steps ≡ length steps₀) × (length lists ≡ length lists₀)
+Inv-loop j sought last list ends steps₀ without₀ p₀ p-end steps without p = length steps ≡ length steps₀
 
 abbrev μ-loop : tie.MeasureT-loop
-μ-loop j sought last list ends steps₀ lists₀ without₀ p₀ p-end steps lists without p = p-end - p
+μ-loop j sought last list ends steps₀ without₀ p₀ p-end steps without p = p-end - p
 
 loop-holds : tie.Need-loop-holds Inv-loop μ-loop
 loop-holds c = search needs
@@ -33,9 +33,6 @@ loop-again c = search needs
 same-length : tie.Need-same-length Inv-loop μ-loop
 same-length c = search needs
 
-same-length-2 : tie.Need-same-length-2 Inv-loop μ-loop
-same-length-2 c = search needs
-
 returns : tie.Need-returns Inv-loop μ-loop
 returns c = search needs
 
@@ -52,5 +49,4 @@ try-list-spec =
     loop-less
     loop-again
     same-length
-    same-length-2
     returns)

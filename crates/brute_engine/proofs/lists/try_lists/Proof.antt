@@ -7,10 +7,10 @@ use Rattle.brute_engine.proofs.lists.try_lists.Statement.{statement}
 use Rattle.brute_engine.proofs.lists.try_lists.Tie as tie
 
 abbrev Inv-loop : tie.InvT-loop
-Inv-loop j sought most steps₀ lists₀ last₀ steps lists last = (length steps ≡ length steps₀) × (length lists ≡ length lists₀)
+Inv-loop j sought most steps₀ last₀ steps last = length steps ≡ length steps₀
 
 abbrev μ-loop : tie.MeasureT-loop
-μ-loop j sought most steps₀ lists₀ last₀ steps lists last = most - last
+μ-loop j sought most steps₀ last₀ steps last = most - last
 
 loop-holds : tie.Need-loop-holds Inv-loop μ-loop
 loop-holds c = search needs
@@ -30,9 +30,6 @@ loop-again c = search needs
 same-length : tie.Need-same-length Inv-loop μ-loop
 same-length c = search needs
 
-same-length-2 : tie.Need-same-length-2 Inv-loop μ-loop
-same-length-2 c = search needs
-
 returns : tie.Need-returns Inv-loop μ-loop
 returns c = search needs
 
@@ -48,5 +45,4 @@ try-lists-spec =
     loop-less
     loop-again
     same-length
-    same-length-2
     returns)
