@@ -8,13 +8,16 @@ use native.Mathlib.Omega.{arith}
 use lib.ListN.{length, length-append}
 use Rattle.numbers.proofs.Order.{tri}
 use Rattle.machine.specs.declared.Pair.{Pair}
+use Rattle.machine.specs.declared.Prior.{Prior}
 use Rattle.machine.specs.declared.Sizes.{Sizes}
 use Rattle.machine.specs.Meaning.Lists.{Each, run, Leads}
-use Rattle.machine.specs.Meaning.Machine.{Machine, step, Alike, IsTrace}
+use Rattle.machine.specs.Meaning.Pick.{after}
+use Rattle.machine.specs.Meaning.Machine.{Machine, step, Alike, IsTrace, ListAfter}
 use Rattle.machine.specs.Meaning.Tables.{number, In, Ok}
 use Rattle.machine.specs.Meaning.Verdict.{May, LowestOpen, Rounds, done, more, LowestApart, IsSame, IsApart, VerdictList, same, apart}
 use Rattle.machine.specs.Working.Pairs.{Closed}
-use Rattle.machine.proofs.Pick.{picked-unique}
+use Rattle.machine.proofs.Pick.{after-step, picked-unique}
+use Rattle.machine.proofs.Pairs.{open-list-has-step}
 use Rattle.machine.proofs.Lists.{each-append, run-in}
 use Rattle.machine.proofs.Numbers.{number-inj}
 
@@ -25,6 +28,10 @@ module _ (m0 m1 : Machine) (z : Sizes) where
 
   pub apart-unique : (p q : Pair) → LowestApart m0 m1 z p → LowestApart m0 m1 z q → p ≡ q
   apart-unique p q a b = one-pair p q (a .inside) (b .inside) (λ h. a .apart (b .lower p (a .inside) h)) (λ h. b .apart (a .lower q (b .inside) h))
+
+  -- "the last vector of a round counts as the step before the next round": a round has one, and the end of the list so far is it
+  pub last-of-round : (l m : List ℕ) (p : Pair) → LowestOpen m0 m1 z l p → ListAfter m0 m1 (Ok z) (after Prior.Start l) p m → after Prior.Start (l ++ m) ≡ after Prior.Start m
+  last-of-round l m p g f = after-step Prior.Start Prior.Start l m (open-list-has-step m0 m1 (Ok z) p m (g .open′) f)
 
   -- the rounds append only allowed vectors, and take none away
   pub rounds-allowed : (r l : List ℕ) → Rounds m0 m1 z r l → Each (Ok z) l → Each (Ok z) r
