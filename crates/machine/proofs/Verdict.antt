@@ -1,7 +1,7 @@
 -- The verdict is one: the rounds have one result, the lowest pair that is not alignable is one pair, and so what is written is one list.
 -- The list of Same drives every pair of power-up states to an alike pair, and no list so drives the pair of Apart.
 use mathlib.Core.Path.{_≡_, sym, ap, _∙_, subst}
-use mathlib.Core.Logic.{_⊎_, ⊎-elim}
+use mathlib.Core.Logic.{⊎-elim}
 use mathlib.Core.List.{List, [], _++_}
 use Prim.Native.Nat.{ℕ, _<_, _≤_}
 use native.Mathlib.Omega.{arith}

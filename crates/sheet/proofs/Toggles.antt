@@ -7,7 +7,7 @@ use lib.Dec.{lit<}
 use lib.ListN.{length}
 use Rattle.machine.specs.declared.Pair.{Pair}
 use Rattle.machine.specs.declared.Prior.{Prior}
-use Rattle.machine.specs.Meaning.Lists.{run, Leads}
+use Rattle.machine.specs.Meaning.Lists.{Leads}
 use Rattle.machine.specs.Meaning.Pick.{Shortest, GoesOn, Takes}
 use Rattle.machine.specs.Meaning.Machine.{step, Alike, ListAfter, IsTrace, IsList}
 use Rattle.machine.specs.Meaning.Tables.{Ok}
@@ -145,6 +145,7 @@ toggles = record {
   lower-aligns = aligns-two (both 0 2) 1 0 fed-1 fed-0 refl;
   greedy = greedy;
   unchanged-aligns = aligns-two (both 1 3) 1 1 fed-1 fed-1 refl;
+  higher-aligns = aligns-two (both 1 3) 0 2 fed-0 (record { below = lit< tt }) refl;
   own = own;
   rounds = rounds;
   trace = trace;

@@ -37,7 +37,7 @@ pub record EnoughTables (a b : Design) (n : TablesLent) : Type 0 where
   pub new-next : sizeOf b ≤ n .new-next
   pub new-out : sizeOf b ≤ n .new-out
 
--- "two scratch slices of one 16-bit number a pair", and a list slice no shorter than the answer; request 2: "demand 3 measures the list
+-- "two scratch slices of one 16-bit number a pair", and a list slice no shorter than the answer; request §2: "demand 3 measures the list
 -- slice on what is picked now". Of lists with VerdictList there is exactly one (laws written-exists and written-unique of machine)
 pub record Enough (a b : Design) (s : Lent) : Type 0 where
   pub scratch : pairs (sizesOf a b) ≤ min (s .depth) (s .reach)

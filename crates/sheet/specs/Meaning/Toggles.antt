@@ -1,9 +1,9 @@
--- What request 2 picks, on small machines: "At the bench each list is set on toggle switches."
---   merges   four states, each shown; vector 0 leads states 0 to 3 to 2, 1, 0, 0, and vector 1 leads them to 2, 2, 3, 3
---   wakes    four states; vector 0 stays, vector 1 leads states 0 and 1 to 2 and 3; only state 3 shows 1
---   fours    the sizes of two such machines, with two vectors
+-- What request §2 picks, on small machines: "At the bench each list is set on toggle switches."
+--   merges   four states, each shown; vector 0 leads states 0 to 3 to 2, 1, 0, 0, and vectors 1 and 2 lead them to 2, 2, 3, 3
+--   wakes    four states, of which only the last shows 1; vector 0 stays, and vectors 1 and 2 lead states 0 to 3 to 2, 3, 2, 3
+--   fours    the sizes of two such machines, with three vectors
 --   Toggles  what is picked where one of these machines stands beside itself
-use Prim.Native.Nat.{ℕ, zero, suc, _+_, _-_, _*_, _/_}
+use Prim.Native.Nat.{ℕ, zero, suc, _+_, _-_, _/_, _%_}
 use mathlib.Core.List.{List, [], _∷_}
 use Rattle.machine.specs.declared.Pair.{Pair}
 use Rattle.machine.specs.declared.Sizes.{Sizes}
@@ -19,11 +19,15 @@ merged s (suc v) = 2 + s / 2
 abbrev pub merges : Machine
 merges = record { next = merged; out = λ s v. s }
 
+abbrev pub woken : ℕ → ℕ → ℕ
+woken s zero = s
+woken s (suc v) = 2 + s % 2
+
 abbrev pub wakes : Machine
-wakes = record { next = λ s v. s + 2 * v; out = λ s v. s / 3 }
+wakes = record { next = woken; out = λ s v. s / 3 }
 
 abbrev pub fours : Sizes
-fours = record { old = 4; new = 4; vectors = 2 }
+fours = record { old = 4; new = 4; vectors = 3 }
 
 abbrev pub both : ℕ → ℕ → Pair
 both s0 s1 = record { old = s0; new = s1 }
@@ -38,6 +42,8 @@ pub record Toggles : Type 0 where
   -- "whenever one of those lists goes on with it": step by step, and not with the fewest changes. 1 1 would do as well, and never changes
   pub greedy : IsList merges merges (Ok fours) (both 1 3) (0 ∷ 1 ∷ [])
   pub unchanged-aligns : Aligns (both 1 3) (1 ∷ 1 ∷ [])
+  -- "and take the lowest vector otherwise": 0 cannot be kept there, and 0 2 would do as well
+  pub higher-aligns : Aligns (both 1 3) (0 ∷ 2 ∷ [])
   -- "a first step takes the lowest"
   pub own : IsList merges merges (Ok fours) (both 2 3) (0 ∷ [])
   -- "In a verdict's list the last vector of a round counts as the step before the next round": 1 aligns the states 0 and 1, then the pair

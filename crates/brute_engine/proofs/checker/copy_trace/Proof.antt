@@ -1,22 +1,19 @@
--- `append`: a turn a step.
+-- `copy_trace`: a turn a step.
 use Prim.Native.Nat.{_-_}
 use mathlib.Core.Path.{_≡_}
 use lib.ListN.{length}
 use borrow.Author.Needs.{needs}
-use Rattle.brute_engine.proofs.checker.append.Statement.{statement}
-use Rattle.brute_engine.proofs.checker.append.Tie as tie
+use Rattle.brute_engine.proofs.checker.copy_trace.Statement.{statement}
+use Rattle.brute_engine.proofs.checker.copy_trace.Tie as tie
 
 abbrev Inv-loop : tie.InvT-loop
-Inv-loop lists p steps judged₀ i₀ judged i = length judged ≡ length judged₀
+Inv-loop traces p judged₀ i₀ judged i = length judged ≡ length judged₀
 
 abbrev μ-loop : tie.MeasureT-loop
-μ-loop lists p steps judged₀ i₀ judged i = 16 - i
+μ-loop traces p judged₀ i₀ judged i = 16 - i
 
 loop-holds : tie.Need-loop-holds Inv-loop μ-loop
 loop-holds c = search needs
-
-wrapping-add-usize-requires : tie.Need-wrapping-add-usize-requires Inv-loop μ-loop
-wrapping-add-usize-requires c κs = search needs
 
 kept-requires : tie.Need-kept-requires Inv-loop μ-loop
 kept-requires c κs = search needs
@@ -45,14 +42,13 @@ same-length c = search needs
 returns : tie.Need-returns Inv-loop μ-loop
 returns c = search needs
 
-pub append-spec : {M : Type 1} → statement M
-append-spec =
+pub copy-trace-spec : {M : Type 1} → statement M
+copy-trace-spec =
     tie.close
     (tie.spec
     Inv-loop
     μ-loop
     loop-holds
-    wrapping-add-usize-requires
     kept-requires
     add-at
     at-requires
