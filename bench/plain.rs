@@ -136,20 +136,26 @@ impl Pairs {
         }
     }
 
-    // The list from a pair down the map, and the pair at its end.
-    fn descend(&self, map: &[u16], mut s0: usize, mut s1: usize) -> (Vec<usize>, usize, usize) {
+    // The list from a pair down the map, behind a step or none, and the pair at its end.
+    fn descend(&self, map: &[u16], mut s0: usize, mut s1: usize, mut before: Option<usize>) -> (Vec<usize>, usize, usize) {
         let mut list = Vec::new();
         while map[s0 * self.states[1] + s1] > 1 {
             let here = map[s0 * self.states[1] + s1];
-            let down = |&v: &usize| {
+            let down = |v: usize| {
                 let (t0, t1) = self.step(s0, s1, v);
                 map[t0 * self.states[1] + t1] + 1 == here
             };
-            let v = (0..self.vectors).find(down).expect("a map of shortest lists");
+            let v = self.pick(down, before);
             list.push(v);
             (s0, s1) = self.step(s0, s1, v);
+            before = Some(v);
         }
         (list, s0, s1)
+    }
+
+    // The vector of the step before if it will do, and otherwise the lowest that will.
+    fn pick(&self, will_do: impl Fn(usize) -> bool, before: Option<usize>) -> usize {
+        before.filter(|&v| will_do(v)).or_else(|| (0..self.vectors).find(|&v| will_do(v))).expect("a map of shortest lists")
     }
 }
 
@@ -177,8 +183,8 @@ fn main() {
     match reach.iter().position(|&d| d == 0) {
         Some(i) => {
             let (mut s0, mut s1) = (i / p.states[1], i % p.states[1]);
-            let (mut list, t0, t1) = p.descend(&depth, s0, s1);
-            list.push((0..p.vectors).find(|&v| p.differs(t0, t1, v)).unwrap());
+            let (mut list, t0, t1) = p.descend(&depth, s0, s1, None);
+            list.push(p.pick(|v| p.differs(t0, t1, v), list.last().copied()));
             text += &format!("APART {} {} {}\n", s0, s1, list.len());
             for v in list {
                 text += &format!("{} {} {}\n", v, p.out[0][s0 * p.vectors + v], p.out[1][s1 * p.vectors + v]);
@@ -189,7 +195,7 @@ fn main() {
             let mut may = [vec![true; p.states[0]], vec![true; p.states[1]]];
             let mut list = Vec::new();
             while let Some(i) = (0..all).find(|&i| may[0][i / p.states[1]] && may[1][i % p.states[1]] && depth[i] != 0) {
-                let (part, _, _) = p.descend(&reach, i / p.states[1], i % p.states[1]);
+                let (part, _, _) = p.descend(&reach, i / p.states[1], i % p.states[1], list.last().copied());
                 for &v in &part {
                     for d in 0..2 {
                         let mut image = vec![false; p.states[d]];

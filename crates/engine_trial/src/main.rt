@@ -1,5 +1,6 @@
 // Tries the engine on tables drawn by hand, and prints what it answers and leaves: P, Q, M and H of the bench sheet, two tables with
-// five vectors, sizes out of range, slices one entry short, next states that are no states, and list slices that just fit or do not.
+// five vectors, tables of which the lowest vectors are not what is picked, sizes out of range, slices one entry short, next states that
+// are no states, and list slices that just fit or do not.
 use engine::MappedAlignable;
 use engine::MappedAlike;
 use machine::Found;
@@ -436,9 +437,60 @@ fn try_five_vectors() {
     );
 }
 
+// Trace and list of old state 0 and a new state, of three states each.
+fn try_from_zero(
+    old_next: &[u8],
+    old_out: &[u8],
+    new_next: &[u8],
+    new_out: &[u8],
+    vectors: usize,
+    new: usize,
+) {
+    let sizes = Sizes {
+        old: 3,
+        new: 3,
+        vectors,
+    };
+    let pair = Pair { old: 0, new };
+    try_pair(old_next, old_out, new_next, new_out, sizes, pair);
+}
+
+// Tables whose traces and lists keep a vector where the lowest is another: A and itself, B and C, D and E with the outputs of C.
+fn try_kept() {
+    let a_next = [1u8, 1, 1, 0, 2, 2, 2, 0, 1];
+    let a_out = [0u8, 1, 0, 0, 1, 0, 1, 0, 1];
+    let b_next = [0u8, 1, 1, 2, 2, 2];
+    let b_out = [0u8, 0, 0, 0, 1, 0];
+    let c_next = [2u8, 0, 2, 1, 1, 0];
+    let c_out = [1u8, 1, 0, 0, 0, 0];
+    let d_next = [0u8, 2, 2, 0, 1, 1];
+    let d_out = [0u8, 0, 0, 1, 0, 0];
+    let e_next = [2u8, 2, 1, 2, 2, 0];
+    io::write_all(1, b"KEEPS 1 WHERE 0 WOULD DO\n");
+    try_from_zero(&a_next, &a_out, &a_next, &a_out, 3, 1);
+    try_from_zero(&b_next, &b_out, &c_next, &c_out, 2, 2);
+    try_from_zero(&b_next, &b_out, &c_next, &c_out, 2, 1);
+    io::write_all(1, b"KEEPS 1 AND THEN TAKES 0, WHERE 1 0 1 WOULD DO\n");
+    try_from_zero(&d_next, &d_out, &e_next, &c_out, 2, 1);
+}
+
+// A list that may begin with any vector takes the lowest, though the call before ended with another and a third would change less often.
+fn try_lowest_first() {
+    let next = [2u8, 1, 1, 1, 2, 2, 0, 1, 0];
+    let out = [0u8, 0, 0, 0, 0, 0, 0, 0, 1];
+    io::write_all(
+        1,
+        b"TAKES 0 FIRST BEHIND A LIST OF 1, WHERE 2 2 1 WOULD DO\n",
+    );
+    try_from_zero(&next, &out, &next, &out, 3, 2);
+    try_from_zero(&next, &out, &next, &out, 3, 1);
+}
+
 fn main() {
     try_sheet();
     try_five_vectors();
+    try_kept();
+    try_lowest_first();
     io::write_all(1, b"SIZES OUT OF RANGE\n");
     try_sizes(0, 2, 2);
     try_sizes(129, 2, 2);

@@ -52,14 +52,14 @@ slice-aggregate-write-report-2 c = sym (length-take-le _ _ (c .before .before .l
 write-report-requires : tie.Need-write-report-requires
 write-report-requires c κs = omega (arith, length-take (c .before .before .before .list-bytes .result) (c .before .before .before .before .before .before .before .before .before .before .before .before .before .before .before .before .before .before .args .list .now), c .before .before .before .before .before .before .before .before .before .before .before .before .before .before .before .before .before .before .pre)
 
-slice-reshare-prefix-write-all : tie.Need-slice-reshare-prefix-write-all
-slice-reshare-prefix-write-all c = search needs
+slice-reshare-prefix-print-text : tie.Need-slice-reshare-prefix-print-text
+slice-reshare-prefix-print-text c = search needs
 
-slice-aggregate-write-all-3 : tie.Need-slice-aggregate-write-all-3
-slice-aggregate-write-all-3 c = search needs
+slice-aggregate-print-text : tie.Need-slice-aggregate-print-text
+slice-aggregate-print-text c = search needs
 
-write-all-requires-3 : tie.Need-write-all-requires-3
-write-all-requires-3 c κs = search needs
+print-text-requires : tie.Need-print-text-requires
+print-text-requires c κs = search needs
 
 same-length : tie.Need-same-length
 same-length c = search needs
@@ -92,9 +92,9 @@ show-spec =
     slice-relend-prefix-write-report
     slice-aggregate-write-report-2
     write-report-requires
-    slice-reshare-prefix-write-all
-    slice-aggregate-write-all-3
-    write-all-requires-3
+    slice-reshare-prefix-print-text
+    slice-aggregate-print-text
+    print-text-requires
     same-length
     same-length-2
     same-length-3
