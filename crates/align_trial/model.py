@@ -266,7 +266,8 @@ def shown(text):
     """What `align_trial` prints of a text: all, or of a long one the first lines, how many bytes it has and their sum by powers of 31."""
     if len(text) <= 4096:
         return text
-    total = sum(byte * pow(31, place, 2 ** 32) for place, byte in enumerate(reversed(text.encode()))) % 2 ** 32
+    prime = 2 ** 32 - 5
+    total = sum(byte * pow(31, place, prime) for place, byte in enumerate(reversed(text.encode()))) % prime
     return text[:text.index("\n", 100)] + f"\nAND SO ON, BYTES {len(text)} SUM {total}\n"
 
 
