@@ -13,6 +13,7 @@ all lists that do.
 The inputs whose lists have some 32,768 steps are a counter of 128 states that vector 1 sends from 127 to 1 and not to 0. Old and new hold
 its bits in other orders, some of them inverted, so that the lowest pair is another one than the lowest count.
 """
+import re
 import sys
 from itertools import product
 from pathlib import Path
@@ -266,8 +267,16 @@ def shown(text):
     """What `align_trial` prints of a text: all, or of a long one the first lines, how many bytes it has and their sum by powers of 31."""
     if len(text) <= 4096:
         return text
-    total = sum(byte * pow(31, place, 2 ** 32) for place, byte in enumerate(reversed(text.encode()))) % 2 ** 32
+    prime = 2 ** 32 - 5
+    total = sum(byte * pow(31, place, prime) for place, byte in enumerate(reversed(text.encode()))) % prime
     return text[:text.index("\n", 100)] + f"\nAND SO ON, BYTES {len(text)} SUM {total}\n"
+
+
+def check_heading(heading, data):
+    """Where a heading says how many steps either way of picking makes, it is so, also beyond what is printed."""
+    said = re.search(r"by the lowest .*?(\d+) steps, by keeping (\d+)", heading)
+    for pick, steps in zip((lowest, kept), said.groups() if said else ()):
+        assert f"\nSAME {steps}\n" in answer(data, 10 ** 6, pick), heading
 
 
 def main():
@@ -275,8 +284,9 @@ def main():
     said = ""
     for line in (HERE / "stdin").read_text().split("\n")[1:]:
         heading, spelled = line.split(":")
-        room = int(heading[0]) if heading[0] in "012" else 32768
-        said += f"\n{heading}\n" + shown(answer(bytes.fromhex(spelled), room, pick))
+        data, room = bytes.fromhex(spelled), int(heading[0]) if heading[0] in "012" else 32768
+        check_heading(heading, data)
+        said += f"\n{heading}\n" + shown(answer(data, room, pick))
     if pick is kept:
         (HERE / "stdout").write_text(said)
     else:

@@ -81,10 +81,10 @@ fn sum(text: &[u8]) -> u64 {
     sum
 }
 
-// The sum with one byte more, below 2 to the 32.
+// The sum with one byte more, modulo the highest prime below 2 to the 32.
 fn add_byte(sum: u64, byte: u8) -> u64
-    requires { ⌜ sum < 4294967296 ⌝ }
-    ensures { λ r. ⌜ r < 4294967296 ⌝ }
+    requires { ⌜ sum < 4294967291 ⌝ }
+    ensures { λ r. ⌜ r < 4294967291 ⌝ }
 {
-    (sum * 31 + byte as u64) % 4294967296
+    (sum * 31 + byte as u64) % 4294967291
 }

@@ -1,4 +1,4 @@
--- `sum`: a turn a byte; the sum stays below 2 to the 32.
+-- `sum`: a turn a byte; the sum stays below the prime.
 use Prim.Native.Nat.{_≤_, _<_, _-_}
 use borrow.Author.Needs.{needs}
 use lib.ListN.{length}
@@ -6,7 +6,7 @@ use Rattle.align_trial.proofs.sum.Statement.{statement}
 use Rattle.align_trial.proofs.sum.Tie as tie
 
 abbrev Inv-loop : tie.InvT-loop
-Inv-loop text sum₀ i₀ sum i = (i ≤ length text) × (sum < 4294967296)
+Inv-loop text sum₀ i₀ sum i = (i ≤ length text) × (sum < 4294967291)
 
 abbrev μ-loop : tie.MeasureT-loop
 μ-loop text sum₀ i₀ sum i = length text - i
