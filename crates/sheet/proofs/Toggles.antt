@@ -14,7 +14,8 @@ use Rattle.machine.specs.Meaning.Tables.{Ok}
 use Rattle.machine.specs.Meaning.Verdict.{May, LowestOpen, done, more, IsSame}
 use Rattle.machine.proofs.Choice.{vector-inj, chosen-kept, takes-start, takes-kept}
 use Rattle.machine.proofs.Pairs.{Different}
-use Rattle.machine.proofs.Pick.{shortest-same, picked-first, picked-cons, picked-one}
+use Rattle.machine.proofs.Pick.{shortest-same, picked-first}
+use Rattle.machine.proofs.Steps.{picked-cons, picked-one}
 use Rattle.machine.proofs.Traces.{trace-of-first}
 use Rattle.sheet.specs.Meaning.Toggles.{merged, merges, wakes, fours, both, Aligns, Toggles}
 use Rattle.sheet.proofs.Short.{alike-by-set}
