@@ -2,6 +2,8 @@
 --   merges   four states, each shown; vector 0 leads states 0 to 3 to 2, 1, 0, 0, and vectors 1 and 2 lead them to 2, 2, 3, 3
 --   wakes    four states, of which only the last shows 1; vector 0 stays, and vectors 1 and 2 lead states 0 to 3 to 2, 3, 2, 3
 --   fours    the sizes of two such machines, with three vectors
+--   both     a pair of states
+--   Aligns   a list leads a pair of states of merges to an alike one
 --   Toggles  what is picked where one of these machines stands beside itself
 use Prim.Native.Nat.{ℕ, zero, suc, _+_, _-_, _/_, _%_}
 use mathlib.Core.List.{List, [], _∷_}
@@ -12,6 +14,7 @@ use Rattle.machine.specs.Meaning.Machine.{Machine, step, Alike, Shows, IsTrace,
 use Rattle.machine.specs.Meaning.Tables.{Ok}
 use Rattle.machine.specs.Meaning.Verdict.{IsSame}
 
+-- the next state of merges
 abbrev pub merged : ℕ → ℕ → ℕ
 merged s zero = 2 - s
 merged s (suc v) = 2 + s / 2
@@ -19,6 +22,7 @@ merged s (suc v) = 2 + s / 2
 abbrev pub merges : Machine
 merges = record { next = merged; out = λ s v. s }
 
+-- the next state of wakes
 abbrev pub woken : ℕ → ℕ → ℕ
 woken s zero = s
 woken s (suc v) = 2 + s % 2
