@@ -7,7 +7,7 @@ use native.Mathlib.Omega.{arith}
 use native.Mathlib.Nat.{suc-inj}
 use lib.ListN.{length}
 use Rattle.machine.specs.declared.Prior.{Prior}
-use Rattle.machine.specs.Meaning.Pick.{Shortest, GoesOn, Takes, Picked}
+use Rattle.machine.specs.Meaning.Pick.{Shortest, GoesOn, IsTaken, IsPicked}
 use Rattle.machine.specs.Working.Order.{shorter, lower, Lower, Before, First}
 use Rattle.machine.specs.Working.Maps.{Chosen}
 use Rattle.machine.proofs.Choice.{takes-chosen}
@@ -31,11 +31,11 @@ module _ {P : List ℕ → Type 0} where
       least (u ∷ us) h (lower e (inl o)) = c .least u (goes-on [] u us (as-short short h e) refl) o
       least (u ∷ us) h (lower e (inr o)) = f .least us (subst (λ (w : ℕ). P (w ∷ us)) (o .0) h) (lower (suc-inj e) (subst (λ (w : ℕ). Lower (Prior.Vector w) us l) (o .0) (o .1)))
 
-  pub picked-cons : {s : Prior} {v : ℕ} {l : List ℕ} → Shortest P (v ∷ l) → Takes s (GoesOn P []) v → Picked (Prior.Vector v) (λ m. P (v ∷ m)) l → Picked s P (v ∷ l)
+  pub picked-cons : {s : Prior} {v : ℕ} {l : List ℕ} → Shortest P (v ∷ l) → IsTaken s (GoesOn P []) v → IsPicked (Prior.Vector v) (λ m. P (v ∷ m)) l → IsPicked s P (v ∷ l)
   picked-cons {v = v} {l = l} short t k = first-picked (first-cons short (takes-chosen (goes-on [] v l short refl) t) (picked-first k))
 
 module _ {P : List ℕ → Type 0} where
-  pub picked-one : {s : Prior} {v : ℕ} → (P [] → ⊥) → P (v ∷ []) → Takes s (λ w. P (w ∷ [])) v → Picked s P (v ∷ [])
+  pub picked-one : {s : Prior} {v : ℕ} → (P [] → ⊥) → P (v ∷ []) → IsTaken s (λ w. P (w ∷ [])) v → IsPicked s P (v ∷ [])
   picked-one {s} {v} more h t = picked-cons short (record { keeps = λ u e g. t .keeps u e (to u g); lowest = λ none w g. t .lowest (λ u e q. none u e (from u q)) w (to w g) }) (first-picked (first-nil h))
     where
       none : (m : List ℕ) → P m → length m < 1 → ⊥

@@ -8,7 +8,7 @@ use lib.ListN.{length}
 use Rattle.machine.specs.declared.Pair.{Pair}
 use Rattle.machine.specs.declared.Prior.{Prior}
 use Rattle.machine.specs.Meaning.Lists.{Leads}
-use Rattle.machine.specs.Meaning.Pick.{Shortest, GoesOn, Takes}
+use Rattle.machine.specs.Meaning.Pick.{Shortest, GoesOn, IsTaken}
 use Rattle.machine.specs.Meaning.Machine.{step, Alike, ListAfter, IsTrace, IsList}
 use Rattle.machine.specs.Meaning.Tables.{Ok}
 use Rattle.machine.specs.Meaning.Verdict.{May, LowestOpen, done, more, IsSame}
@@ -57,7 +57,7 @@ module _ (p : Pair) (now : Alike merges merges (Ok fours) p → ⊥) (next : (v 
       go (x ∷ []) s = (x, s .has)
       go (x ∷ (y ∷ r)) s = absurd (omega (arith, shortest-same s (shortest-two h)))
 
-  list-two : {v w : ℕ} → Aligns p (v ∷ w ∷ []) → ((u x : ℕ) → Aligns p (u ∷ x ∷ []) → v ≤ u) → Takes (Prior.Vector v) (λ x. Aligns p (v ∷ x ∷ [])) w → IsList merges merges (Ok fours) p (v ∷ w ∷ [])
+  list-two : {v w : ℕ} → Aligns p (v ∷ w ∷ []) → ((u x : ℕ) → Aligns p (u ∷ x ∷ []) → v ≤ u) → IsTaken (Prior.Vector v) (λ x. Aligns p (v ∷ x ∷ [])) w → IsList merges merges (Ok fours) p (v ∷ w ∷ [])
   list-two {v} {w} h low t = picked-cons (shortest-two h) (takes-start (λ u g. let x = goes-two h g in low u (x .0) (x .1))) (picked-one (next v) h t)
 
 kept-aligns : Aligns (both 0 2) (1 ∷ 1 ∷ [])
