@@ -1,6 +1,6 @@
-// The same decision in plain Rust, without proofs and without refusals: what `bench/run` compares `align` with.
-// It reads two accepted images back to back and prints what `align` prints, by the same searches: a map of one number a pair, a round
-// for each length of list, one sweep over the cells in order for each clock.
+// The best plain Rust program for the question, without proofs and without refusals: what `bench/run` compares `align` with.
+// It reads two accepted images back to back and prints what `align` prints. A map holds one number a pair; a search goes backwards from the
+// pairs found last, over tables of the states before each state, so that each pair is met once; one sweep over the cells for each clock.
 use std::io::{self, Read, Write};
 
 struct Design {
@@ -92,6 +92,38 @@ fn tabulate(d: &Design) -> (Vec<u8>, Vec<u8>) {
     (next, out)
 }
 
+// For each state and vector the states that the vector sends there, one after another.
+struct Inverse {
+    starts: Vec<u16>,
+    states: Vec<u8>,
+    vectors: usize,
+}
+
+impl Inverse {
+    fn of(next: &[u8], count: usize, vectors: usize) -> Inverse {
+        let mut starts = vec![0u16; count * vectors + 1];
+        for (i, &t) in next.iter().enumerate() {
+            starts[t as usize * vectors + i % vectors + 1] += 1;
+        }
+        for k in 0..count * vectors {
+            starts[k + 1] += starts[k];
+        }
+        let mut ends = starts.clone();
+        let mut states = vec![0u8; next.len()];
+        for (i, &t) in next.iter().enumerate() {
+            let end = &mut ends[t as usize * vectors + i % vectors];
+            states[*end as usize] = (i / vectors) as u8;
+            *end += 1;
+        }
+        Inverse { starts, states, vectors }
+    }
+
+    fn before(&self, t: usize, v: usize) -> &[u8] {
+        let k = t * self.vectors + v;
+        &self.states[self.starts[k] as usize..self.starts[k + 1] as usize]
+    }
+}
+
 struct Pairs {
     next: [Vec<u8>; 2],
     out: [Vec<u8>; 2],
@@ -108,31 +140,26 @@ impl Pairs {
         self.out[0][s0 * self.vectors + v] != self.out[1][s1 * self.vectors + v]
     }
 
-    // From a map of ones, one more a round for each step of the shortest list to them.
-    fn search(&self, map: &mut [u16]) {
-        let mut k = 1;
-        loop {
-            let mut changed = false;
-            for s0 in 0..self.states[0] {
-                for s1 in 0..self.states[1] {
-                    let i = s0 * self.states[1] + s1;
-                    if map[i] != 0 {
-                        continue;
-                    }
-                    for v in 0..self.vectors {
-                        let (t0, t1) = self.step(s0, s1, v);
-                        if map[t0 * self.states[1] + t1] == k {
-                            map[i] = k + 1;
-                            changed = true;
-                            break;
+    // From a map of ones, one more for each step of the shortest list to them: backwards from the pairs found last, each met once.
+    fn search(&self, back: &[Inverse; 2], map: &mut [u16]) {
+        let mut found: Vec<u16> = (0..map.len()).filter(|&i| map[i] == 1).map(|i| i as u16).collect();
+        found.reserve(map.len() - found.len());
+        let mut at = 0;
+        while at < found.len() {
+            let i = found[at] as usize;
+            at += 1;
+            let (t0, t1) = (i / self.states[1], i % self.states[1]);
+            for v in 0..self.vectors {
+                for &s0 in back[0].before(t0, v) {
+                    for &s1 in back[1].before(t1, v) {
+                        let j = s0 as usize * self.states[1] + s1 as usize;
+                        if map[j] == 0 {
+                            map[j] = map[i] + 1;
+                            found.push(j as u16);
                         }
                     }
                 }
             }
-            if !changed {
-                return;
-            }
-            k += 1;
         }
     }
 
@@ -173,9 +200,10 @@ fn main() {
         let (s0, s1) = (i / p.states[1], i % p.states[1]);
         depth[i] = (0..p.vectors).any(|v| p.differs(s0, s1, v)) as u16;
     }
-    p.search(&mut depth);
+    let back = [0, 1].map(|d| Inverse::of(&p.next[d], p.states[d], p.vectors));
+    p.search(&back, &mut depth);
     let mut reach: Vec<u16> = depth.iter().map(|&d| (d == 0) as u16).collect();
-    p.search(&mut reach);
+    p.search(&back, &mut reach);
     let mut text = String::new();
     text += &format!("INPUTS {} OUTPUTS {} LATCHES {} {}\n", old.inputs, old.outputs, old.latches, new.latches);
     text += &format!("ALIKE {} OF {}\n", depth.iter().filter(|&&d| d == 0).count(), all);
