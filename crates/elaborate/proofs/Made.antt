@@ -9,7 +9,7 @@ use borrow.Author.Tests.{le-ltb}
 use lib.ListN.{length, getD}
 use lib.Seq.{ext-getD}
 use Rattle.memory.specs.Meaning.Lists.{listOf}
-use Rattle.memory.specs.Meaning.Refusals.{LowestOrNone}
+use Rattle.memory.specs.Meaning.Refusals.{FirstOrNone}
 use Rattle.memory.specs.Working.Filling.{Filled}
 use Rattle.memory.proofs.Lists.{length-listOf, getD-listOf, filled-listOf}
 use Rattle.netlist.specs.declared.Cell.{Cell}
@@ -74,7 +74,7 @@ module _ {d : Drawing} (s : Spelled d) (served : DrawingFault d 18 → ⊥) (few
   no-3 : DrawingFault d 3 → ⊥
   no-3 (DrawingFault.cells l) = omega (arith, few, l)
 
-  pub draws-9 : {r : Reading} {c : Design} {m : ℕ} → c ≡ drawn d → LowestOrNone (DesignFault c) m → (m ≡ 0 → ⊥) → r .answer ≡ Refused 9 → r .design ≡ emptyDesign → Draws d r
+  pub draws-9 : {r : Reading} {c : Design} {m : ℕ} → c ≡ drawn d → FirstOrNone (DesignFault c) m → (m ≡ 0 → ⊥) → r .answer ≡ Refused 9 → r .design ≡ emptyDesign → Draws d r
   draws-9 {m = m} is low z = turned-away (FirstIn.later served (FirstIn.later no-3 (FirstIn.here (go (kind fault)))))
     where
       fault : DesignFault (drawn d) m
@@ -85,7 +85,7 @@ module _ {d : Drawing} (s : Spelled d) (served : DrawingFault d 18 → ⊥) (few
       go (five q f) = absurd (drawn-5 s served few f)
       go (nine q i p) = DrawingFault.loop (DesignFault.loop i p)
 
-  pub draws-none : {c : Design} {m : ℕ} → c ≡ drawn d → LowestOrNone (DesignFault c) m → m ≡ 0 → Draws d (record { answer = Accepted; design = c })
+  pub draws-none : {c : Design} {m : ℕ} → c ≡ drawn d → FirstOrNone (DesignFault c) m → m ≡ 0 → Draws d (record { answer = Accepted; design = c })
   draws-none {c} is low z = record { keeps = (free, is) }
     where
       free : (n : ℕ) → DrawingFault d n → ⊥

@@ -6,7 +6,7 @@ use native.Mathlib.Omega.{arith}
 use lib.ListN.{length, take}
 use lib.Seq.{length-take-le}
 use Rattle.numbers.proofs.Order.{not-lt, lt-of-not-le}
-use Rattle.memory.specs.Meaning.Refusals.{Free, Lowest, LowestOrNone, Keeps}
+use Rattle.memory.specs.Meaning.Refusals.{Free, First, FirstOrNone, Keeps}
 use Rattle.memory.specs.Meaning.Slices.{Zero}
 use Rattle.memory.proofs.Refusals.{some-number, no-number}
 use Rattle.machine.specs.declared.Found.{Found}
@@ -25,7 +25,7 @@ module _ {t : Tables} {room : ℕ} {p : Pair} where
   state-most (StateFault.old-state h) = omega arith
   state-most (StateFault.new-state h) = omega arith
 
-  pub at-call : {n : ℕ} → (n ≡ 0 → ⊥) → LowestOrNone (TablesFault t room) n → LowestOrNone (StateFault t room p) n
+  pub at-call : {n : ℕ} → (n ≡ 0 → ⊥) → FirstOrNone (TablesFault t room) n → FirstOrNone (StateFault t room p) n
   at-call {n} e l = some-number e (record { applies = StateFault.call (l .some e .applies); lower = λ m h f. go f h })
     where
       go : {m : ℕ} → StateFault t room p m → m < n → ⊥
@@ -34,7 +34,7 @@ module _ {t : Tables} {room : ℕ} {p : Pair} where
       go (StateFault.new-state o) h = omega (arith, fault-most (l .some e .applies))
 
   module _ (none : Free (TablesFault t room)) where
-    pub at-14 : StateFault t room p 14 → LowestOrNone (StateFault t room p) 14
+    pub at-14 : StateFault t room p 14 → FirstOrNone (StateFault t room p) 14
     at-14 s = some-number (λ e. omega arith) (record { applies = s; lower = λ m h f. go f h })
       where
         go : {m : ℕ} → StateFault t room p m → m < 14 → ⊥
@@ -42,7 +42,7 @@ module _ {t : Tables} {room : ℕ} {p : Pair} where
         go (StateFault.old-state o) h = omega arith
         go (StateFault.new-state o) h = omega arith
 
-    pub at-none : In (t .sizes) p → LowestOrNone (StateFault t room p) 0
+    pub at-none : In (t .sizes) p → FirstOrNone (StateFault t room p) 0
     at-none i = no-number (λ m f. go f)
       where
         go : {m : ℕ} → StateFault t room p m → ⊥
@@ -63,7 +63,7 @@ module _ (t : Tables) (s : Lent) (p : Pair) (None : Type 0) (Sought : List ℕ �
   abbrev Wrong : ℕ → Type 0
   Wrong n = PairFault t s p None Sought n
 
-  pub lowest-state : {n : ℕ} → Lowest (StateFault t (min (s .depth) (s .reach)) p) n → Lowest Wrong n
+  pub lowest-state : {n : ℕ} → First (StateFault t (min (s .depth) (s .reach)) p) n → First Wrong n
   lowest-state {n} l = record { applies = PairFault.state (l .applies); lower = λ m h f. go f h }
     where
       go : {m : ℕ} → Wrong m → m < n → ⊥

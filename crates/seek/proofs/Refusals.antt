@@ -5,7 +5,7 @@ use native.Mathlib.Omega.{arith}
 use native.Mathlib.Decide.{decLt}
 use lib.ListN.{getD}
 use Rattle.numbers.proofs.Order.{not-lt, le-of-not-lt}
-use Rattle.memory.specs.Meaning.Refusals.{Free, LowestOrNone}
+use Rattle.memory.specs.Meaning.Refusals.{Free, FirstOrNone}
 use Rattle.memory.proofs.Refusals.{some-number, no-number}
 use Rattle.machine.specs.declared.Sizes.{Sizes}
 use Rattle.machine.specs.Meaning.Tables.{Tables, pairs}
@@ -57,19 +57,19 @@ module _ {t : Tables} {room : ℕ} where
   past-12 r l (TablesFault.new-leads o) = omega arith
 
   -- n applies, and what applies is at least n
-  lowest : {n : ℕ} → 0 < n → TablesFault t room n → ((m : ℕ) → TablesFault t room m → n ≤ m) → LowestOrNone (TablesFault t room) n
+  lowest : {n : ℕ} → 0 < n → TablesFault t room n → ((m : ℕ) → TablesFault t room m → n ≤ m) → FirstOrNone (TablesFault t room) n
   lowest p f past = some-number (λ e. omega arith) (record { applies = f; lower = λ m h g. not-lt (past m g) h })
 
-  pub at-11 : OutOfRange (t .sizes) → LowestOrNone (TablesFault t room) 11
+  pub at-11 : OutOfRange (t .sizes) → FirstOrNone (TablesFault t room) 11
   at-11 o = lowest (omega arith) (TablesFault.range o) (λ m f. fault-some f)
 
-  pub at-12 : InRange (t .sizes) → TooShort t room → LowestOrNone (TablesFault t room) 12
+  pub at-12 : InRange (t .sizes) → TooShort t room → FirstOrNone (TablesFault t room) 12
   at-12 r o = lowest (omega arith) (TablesFault.short o) (λ m f. past-11 r f)
 
-  pub at-13 : InRange (t .sizes) → LongEnough t room → TablesFault t room 13 → LowestOrNone (TablesFault t room) 13
+  pub at-13 : InRange (t .sizes) → LongEnough t room → TablesFault t room 13 → FirstOrNone (TablesFault t room) 13
   at-13 r l o = lowest (omega arith) o (λ m f. past-12 r l f)
 
-  pub at-none : InRange (t .sizes) → LongEnough t room → Stays (t .sizes .old) (t .sizes .vectors) (t .old-next) → Stays (t .sizes .new) (t .sizes .vectors) (t .new-next) → LowestOrNone (TablesFault t room) 0
+  pub at-none : InRange (t .sizes) → LongEnough t room → Stays (t .sizes .old) (t .sizes .vectors) (t .old-next) → Stays (t .sizes .new) (t .sizes .vectors) (t .new-next) → FirstOrNone (TablesFault t room) 0
   at-none r l a b = no-number (λ m f. go f)
     where
       go : {m : ℕ} → TablesFault t room m → ⊥

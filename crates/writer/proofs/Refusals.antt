@@ -2,8 +2,8 @@
 use Prim.Native.Nat.{ℕ, _<_, _≤_}
 use native.Mathlib.Omega.{arith}
 use Rattle.numbers.proofs.Order.{not-lt}
-use Rattle.memory.specs.Meaning.Refusals.{Free, Lowest}
-use Rattle.memory.proofs.Refusals.{lowest-early, lowest-late}
+use Rattle.memory.specs.Meaning.Refusals.{Free, First}
+use Rattle.memory.proofs.Refusals.{first-early, first-late}
 use Rattle.netlist.specs.declared.Design.{Design}
 use Rattle.netlist.specs.Meaning.Faults.{DesignFault, Accepted}
 use Rattle.netlist.proofs.Numbers.{fault-bounds}
@@ -20,11 +20,11 @@ module _ (d : Design) (n : ℕ) where
   some-fault (WriteFault.design f) = fault-bounds f .0
   some-fault (WriteFault.short l) = omega arith
 
-  pub own-number : {k : ℕ} → Lowest (DesignFault d) k → Lowest (WriteFault d n) k
-  own-number l = lowest-early (DesignFault d) (WriteFault d n) 12 (λ k f. WriteFault.design f) early (omega (arith, fault-bounds (l .applies) .1)) l
+  pub own-number : {k : ℕ} → First (DesignFault d) k → First (WriteFault d n) k
+  own-number l = first-early (DesignFault d) (WriteFault d n) 12 (λ k f. WriteFault.design f) early (omega (arith, fault-bounds (l .applies) .1)) l
 
-  pub twelve : Accepted d → n < bytesOf d → Lowest (WriteFault d n) 12
-  twelve a h = lowest-late (DesignFault d) (WriteFault d n) 12 (λ k f. WriteFault.design f) early a (WriteFault.short h)
+  pub twelve : Accepted d → n < bytesOf d → First (WriteFault d n) 12
+  twelve a h = first-late (DesignFault d) (WriteFault d n) 12 (λ k f. WriteFault.design f) early a (WriteFault.short h)
 
   pub none : Accepted d → bytesOf d ≤ n → Free (WriteFault d n)
   none a h k (WriteFault.design f) = a k f
