@@ -5,7 +5,7 @@ use mathlib.Core.List.{List}
 use lib.ListN.{length, take}
 use Rattle.memory.specs.Meaning.Refusals.{Free, First}
 use Rattle.memory.specs.Meaning.Slices.{Zero}
-use Rattle.memory.proofs.Refusals.{first-unique}
+use Rattle.memory.proofs.Orders.{first-unique}
 use Rattle.memory.proofs.Slices.{zero-unique}
 use Rattle.netlist.specs.declared.Design.{Design}
 use Rattle.simulator.proofs.Values.{next-state-lt}

@@ -80,8 +80,11 @@ module _ (a b : Design) where
   is-10 (InterfaceFault.other-inputs f) = omega arith
   is-10 (InterfaceFault.other-outputs f) = omega arith
 
+  interface-numbered : Numbered (InterfaceFault a b)
+  interface-numbered k f = (omega (arith, is-10 f), omega (arith, is-10 f))
+
   pub interface-10 : InterfaceFault a b 10 → FirstOrNone (InterfaceFault a b) 10
-  interface-10 f = lowest-number (λ m g. (omega (arith, is-10 g), omega (arith, is-10 g))) (record { applies = f; lower = λ m h g. omega (arith, is-10 g) })
+  interface-10 f = lowest-number interface-numbered (record { applies = f; lower = λ m h g. omega (arith, is-10 g) })
 
   pub interface-free : a .inputs ≡ b .inputs → a .outputs ≡ b .outputs → FirstOrNone (InterfaceFault a b) 0
   interface-free i o = no-number free
@@ -109,6 +112,11 @@ module _ (a b : Design) (n0 m0 n1 m1 : ℕ) where
   of-both k (BothFault.old f) = inl (EitherFault.old f)
   of-both k (BothFault.new f) = inl (EitherFault.new f)
   of-both k (BothFault.interface f) = inr f
+
+  pub both-numbered : Numbered (BothFault a b n0 m0 n1 m1)
+  both-numbered k (BothFault.old f) = table-numbered a n0 m0 k f
+  both-numbered k (BothFault.new f) = table-numbered b n1 m1 k f
+  both-numbered k (BothFault.interface f) = interface-numbered a b k f
 
   pub both-lowest : {x y z w r : ℕ} → FirstOrNone (TableFault a n0 m0) x → FirstOrNone (TableFault b n1 m1) y → FirstOrNone (InterfaceFault a b) z
       → w ≡ earlierNumber x y → r ≡ earlierNumber w z → FirstOrNone (BothFault a b n0 m0 n1 m1) r

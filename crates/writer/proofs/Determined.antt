@@ -8,6 +8,7 @@ use lib.ListN.{length, getD, take}
 use lib.Seq.{ext-getD, getD-take}
 use Rattle.memory.specs.Meaning.Refusals.{Reply, answer, refusal}
 use Rattle.memory.specs.Meaning.Slices.{Zero}
+use Rattle.memory.proofs.Table.{first-numbered}
 use Rattle.memory.proofs.Refusals.{keeps-unique}
 use Rattle.memory.proofs.Slices.{zero-unique}
 use Rattle.netlist.specs.declared.Design.{Design}
@@ -15,11 +16,10 @@ use Rattle.writer.specs.declared.Written.{Written}
 use Rattle.writer.specs.declared.Written.the-variants.{Bytes, Refused}
 use Rattle.writer.specs.Meaning.Writing.{WriteFault, writeReply, HoldsImage, Writes}
 use Rattle.writer.proofs.Images.{one-image}
-use Rattle.writer.proofs.Refusals.{some-fault}
 use Rattle.writer.proofs.RoundTrip.{AreBytes, front-bytes}
 
 pub write-not-zero : {d : Design} {n : ℕ} {l : List ℕ} → Writes d n (Refused 0) l → ⊥
-write-not-zero {d} {n} p = omega (arith, some-fault d n (p .keeps .0 .applies))
+write-not-zero p = omega (arith, first-numbered (p .keeps .0) .0)
 
 -- a slice that holds the image of d, and zero beyond, is one slice
 holds-unique : (d : Design) (a b : List ℕ) → length a ≡ length b → AreBytes a → AreBytes b → (x y : ℕ) → HoldsImage d a x → HoldsImage d b y → (x ≡ y) × (a ≡ b)
