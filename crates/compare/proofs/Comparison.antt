@@ -149,7 +149,7 @@ both-most (BothFault.new (TableFault.out h)) = omega arith
 both-most (BothFault.interface (InterfaceFault.other-inputs d)) = omega arith
 both-most (BothFault.interface (InterfaceFault.other-outputs d)) = omega arith
 
-compare-numbered : {a b : Design} {n : TablesLent} {s : Lent} → Numbered (CompareFault a b n s)
+pub compare-numbered : {a b : Design} {n : TablesLent} {s : Lent} → Numbered (CompareFault a b n s)
 compare-numbered {a} {b} m (CompareFault.tabulating f) = both-numbered a b _ _ _ _ m f
 compare-numbered m (CompareFault.scratch h) = (omega arith, omega arith)
 compare-numbered m (CompareFault.list f) = (omega (arith, short-16 f), omega (arith, short-16 f))

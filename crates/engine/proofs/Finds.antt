@@ -70,13 +70,13 @@ module _ (t : Tables) (s : Lent) (p : Pair) (None : Type 0) (Sought : List ℕ �
   abbrev Wrong : ℕ → Type 0
   Wrong n = PairFault t s p None Sought n
 
-  numbered : Numbered Wrong
-  numbered n (PairFault.state f) = state-numbered n f
-  numbered n (PairFault.none o) = (omega arith, omega arith)
-  numbered n (PairFault.short-list l o h) = (omega arith, omega arith)
+  pub pair-numbered : Numbered (PairFault t s p None Sought)
+  pair-numbered n (PairFault.state f) = state-numbered n f
+  pair-numbered n (PairFault.none o) = (omega arith, omega arith)
+  pair-numbered n (PairFault.short-list l o h) = (omega arith, omega arith)
 
   pub lowest-state : {n : ℕ} → First (StateFault t (min (s .depth) (s .reach)) p) n → First Wrong n
-  lowest-state l = first-early (StateFault t (min (s .depth) (s .reach)) p) Wrong 15 numbered (λ m f. PairFault.state f) (λ m f h. go f h) (omega (arith, state-most (l .applies))) l
+  lowest-state l = first-early (StateFault t (min (s .depth) (s .reach)) p) Wrong 15 pair-numbered (λ m f. PairFault.state f) (λ m f h. go f h) (omega (arith, state-most (l .applies))) l
     where
       go : {m : ℕ} → Wrong m → m < 15 → StateFault t (min (s .depth) (s .reach)) p m
       go (PairFault.state f) h = f
@@ -102,9 +102,9 @@ module _ (t : Tables) (s : Lent) (p : Pair) (None : Type 0) (Sought : List ℕ �
     -- what is sought is one list, and the slice was cleared
     pub keeps-outcome : ((a b : List ℕ) → Sought a → Sought b → a ≡ b) → {list list′ : List ℕ} {r : Found} → Outcome None Sought list list′ r
         → length list ≡ s .written → length list′ ≡ s .written → Zero list → Keeps Wrong (Listed Sought list′) (Zero list′) (foundReply r)
-    keeps-outcome unique (missing none q) e e′ z = (first-of-lowest numbered (record { applies = PairFault.none none; lower = λ m h f. not-lt (past-14 f) h }), rw q z)
+    keeps-outcome unique (missing none q) e e′ z = (first-of-lowest pair-numbered (record { applies = PairFault.none none; lower = λ m h f. not-lt (past-14 f) h }), rw q z)
     keeps-outcome unique (short some l has h q) e e′ z =
-        (first-of-lowest numbered (record { applies = PairFault.short-list l has (omega arith); lower = λ m h f. not-lt (past-15 some f) h }), rw q z)
+        (first-of-lowest pair-numbered (record { applies = PairFault.short-list l has (omega arith); lower = λ m h f. not-lt (past-15 some f) h }), rw q z)
     keeps-outcome unique {list} {list′} (steps some n fits has same) e e′ z = (
       λ m f. past-16 some (λ l o. omega (arith, ap length (unique l (take n list′) o has), length-take-le n list′ (omega arith))) f,
       record { sought = has; fits = omega arith; beyond = λ i h. same i h ∙ z i (omega arith) },

@@ -16,7 +16,7 @@ use Rattle.simulator.specs.Meaning.Tables.{sizeOf, TableFault, Interface
 
 -- a clock: 3, 5 and 9 of the design, then 14
 module _ (d : Design) (s v : ℕ) where
-  clock-numbered : Numbered (ClockFault d s v)
+  pub clock-numbered : Numbered (ClockFault d s v)
   clock-numbered n (ClockFault.design f) = design-numbered n f
   clock-numbered n (ClockFault.state l) = (omega arith, omega arith)
   clock-numbered n (ClockFault.vector l) = (omega arith, omega arith)
@@ -39,7 +39,7 @@ module _ (d : Design) (s v : ℕ) where
 
 -- a table: 3, 5 and 9 of the design, then 12
 module _ (d : Design) (n m : ℕ) where
-  table-numbered : Numbered (TableFault d n m)
+  pub table-numbered : Numbered (TableFault d n m)
   table-numbered k (TableFault.design f) = design-numbered k f
   table-numbered k (TableFault.next l) = (omega arith, omega arith)
   table-numbered k (TableFault.out l) = (omega arith, omega arith)
@@ -80,7 +80,7 @@ module _ (a b : Design) where
   is-10 (InterfaceFault.other-inputs f) = omega arith
   is-10 (InterfaceFault.other-outputs f) = omega arith
 
-  interface-numbered : Numbered (InterfaceFault a b)
+  pub interface-numbered : Numbered (InterfaceFault a b)
   interface-numbered k f = (omega (arith, is-10 f), omega (arith, is-10 f))
 
   pub interface-10 : InterfaceFault a b 10 → FirstOrNone (InterfaceFault a b) 10

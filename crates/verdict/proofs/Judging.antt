@@ -40,9 +40,9 @@ module _ (t : Tables) (s : Lent) where
   either n (call f) = inl f
   either n (list f) = inr f
 
-  numbered : Numbered (JudgeFault t s)
-  numbered n (call f) = tables-numbered n f
-  numbered n (list (short l w h)) = (omega arith, omega arith)
+  pub judge-numbered : Numbered (JudgeFault t s)
+  judge-numbered n (call f) = tables-numbered n f
+  judge-numbered n (list (short l w h)) = (omega arith, omega arith)
 
   above : {n m : ℕ} → Room n → Short m → n ≤ m
   above f (short l w h) = omega (arith, fault-most f)
@@ -50,7 +50,7 @@ module _ (t : Tables) (s : Lent) where
   pub judged-refused : {depth reach written : List ℕ} {n : ℕ} → (n ≡ 0 → ⊥) → FirstOrNone (TablesFault t (min (s .depth) (s .reach))) n → Cleared (s .depth) depth → Cleared (s .reach) reach → Cleared (s .written) written → Judges t s (leftOf depth reach written) (Verdict.Refused n)
   judged-refused z l a b c =
       let f = l .some z in
-      record { keeps = (first-lower Room Short (JudgeFault t s) (λ m x. call x) (λ m x. list x) either numbered f (λ m x. above (f .applies) x), c .zero); tidy = record { depth = a; reach = b; written = c .size } }
+      record { keeps = (first-lower Room Short (JudgeFault t s) (λ m x. call x) (λ m x. list x) either judge-numbered f (λ m x. above (f .applies) x), c .zero); tidy = record { depth = a; reach = b; written = c .size } }
 
   module _ (none : Free (TablesFault t (min (s .depth) (s .reach)))) where
     pub judged : {depth reach written : List ℕ} {r : Verdict} → {d n w : ℕ} → Settled t w written r → Cleared d depth → Cleared n reach → w ≡ s .written → d ≡ s .depth → n ≡ s .reach → length written ≡ w → Judges t s (leftOf depth reach written) r

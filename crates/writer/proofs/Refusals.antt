@@ -17,7 +17,7 @@ module _ (d : Design) (n : ℕ) where
   early k (WriteFault.design f) h = f
   early k (WriteFault.short l) h = absurd (omega arith)
 
-  write-numbered : Numbered (WriteFault d n)
+  pub write-numbered : Numbered (WriteFault d n)
   write-numbered k (WriteFault.design f) = design-numbered k f
   write-numbered k (WriteFault.short l) = (omega arith, omega arith)
 
