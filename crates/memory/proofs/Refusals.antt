@@ -27,6 +27,13 @@ lowest-number numbered l = some-number (first-of-lowest numbered l)
 pub no-number : {P : ℕ → Type 0} → Free P → FirstOrNone P 0
 no-number f = record { some = λ z. absurd (z refl); none = λ _. f }
 
+-- as for replies, first is lowest
+pub alone-of-lowest : {P : ℕ → Type 0} {n : ℕ} → Numbered P → ((n ≡ 0 → ⊥) → Lowest P n) → (n ≡ 0 → Free P) → FirstOrNone P n
+alone-of-lowest numbered l f = record { some = λ z. first-of-lowest numbered (l z); none = f }
+
+pub lowest-of-alone : {P : ℕ → Type 0} {n : ℕ} → Numbered P → FirstOrNone P n → (n ≡ 0 → ⊥) → Lowest P n
+lowest-of-alone numbered l z = lowest-of-first numbered (l .some z)
+
 -- the number is 0 where none applies
 pub zero-number : {P : ℕ → Type 0} {n : ℕ} → FirstOrNone P n → Free P → n ≡ 0
 zero-number {n = n} l f = go (ℕ-discrete n 0)

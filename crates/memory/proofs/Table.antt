@@ -1,5 +1,5 @@
 -- Document 01's order: of the numbers 1 to 16 the first that applies is the lowest that does.
-use Prim.Native.Nat.{ℕ, zero, suc, _+_, _<_, _≤_, min}
+use Prim.Native.Nat.{ℕ, zero, suc, _<_, _≤_, min}
 use mathlib.Core.Path.{_≡_, refl, sym, _∙_, subst}
 use mathlib.Core.Logic.{⊎-elim}
 use mathlib.Core.Bool.{Bool, true, false, _&&_, _||_}
@@ -13,7 +13,7 @@ use Rattle.memory.specs.Working.Lowest.{Numbered, Lowest}
 use Rattle.memory.proofs.Computed.{every, every-at, and-left, and-right, or-split}
 use Rattle.memory.proofs.Orders.{Stands, first-stands, earlier-left, earlier-right, earlier-behind}
 
--- tests that compute on an order: which numbers stand in it, and that those up to 16 rise
+-- tests that compute on an order: which numbers stand in it, that those up to 16 rise, and that all of them are 1 to 16
 abbrev listed : ℕ → List ℕ → Bool
 listed n [] = false
 listed n (k ∷ ks) = eqb k n || listed n ks
@@ -26,9 +26,9 @@ abbrev rising : List ℕ → Bool
 rising [] = true
 rising (k ∷ ks) = below k ks && rising ks
 
-abbrev some : List ℕ → Bool
-some [] = true
-some (k ∷ ks) = (ltb 0 k && leb k 16) && some ks
+abbrev among : List ℕ → Bool
+among [] = true
+among (k ∷ ks) = (ltb 0 k && leb k 16) && among ks
 
 listed-stands : (n : ℕ) (ks : List ℕ) → T (listed n ks) → Stands ks n
 listed-stands n [] t = absurd t
@@ -40,11 +40,11 @@ below-at j {ks = k ∷ ks} t Stands.first h l =
     (or-split (ltb 16 j) (ltb 16 k || ltb j k) (and-left (ltb 16 j || (ltb 16 k || ltb j k)) (below j ks) t))
 below-at j {ks = k ∷ ks} t (Stands.behind s) h l = below-at j (and-right (ltb 16 j || (ltb 16 k || ltb j k)) (below j ks) t) s h l
 
-some-at : {ks : List ℕ} {n : ℕ} → T (some ks) → Stands ks n → (0 < n) × (n ≤ 16)
-some-at {ks = k ∷ ks} t Stands.first =
-    let h = and-left (ltb 0 k && leb k 16) (some ks) t in
+among-at : {ks : List ℕ} {n : ℕ} → T (among ks) → Stands ks n → (0 < n) × (n ≤ 16)
+among-at {ks = k ∷ ks} t Stands.first =
+    let h = and-left (ltb 0 k && leb k 16) (among ks) t in
     (ltb→lt 0 k (and-left (ltb 0 k) (leb k 16) h), leb→le k 16 (and-right (ltb 0 k) (leb k 16) h))
-some-at {ks = k ∷ ks} t (Stands.behind s) = some-at (and-right (ltb 0 k && leb k 16) (some ks) t) s
+among-at {ks = k ∷ ks} t (Stands.behind s) = among-at (and-right (ltb 0 k && leb k 16) (among ks) t) s
 
 -- what is lowest is first, and what is first is lowest, in any order in which the numbers up to 16 rise
 module _ {P : ℕ → Type 0} (numbered : Numbered P) where
@@ -62,7 +62,7 @@ module _ {P : ℕ → Type 0} (numbered : Numbered P) where
 
 -- the numbers of the order are 1 to 16
 pub stands-table : {n : ℕ} → Stands tableOrder n → (0 < n) × (n ≤ 16)
-stands-table s = some-at tt s
+stands-table s = among-at tt s
 
 pub table-stands : (n : ℕ) → 0 < n → n ≤ 16 → Stands tableOrder n
 table-stands zero h l = absurd (omega arith)
