@@ -6,7 +6,7 @@ use native.Mathlib.Omega.{arith}
 use lib.ListN.{length, getD, take, drop, length-drop}
 use lib.Seq.{getD-take, getD-drop, take-take, length-take-le}
 use Rattle.numbers.specs.Meaning.Bits.{bitOf}
-use Rattle.memory.specs.Meaning.Refusals.{Free, Lowest}
+use Rattle.memory.specs.Meaning.Refusals.{Free, First}
 use Rattle.netlist.specs.Meaning.Limits.{mostBytes}
 use Rattle.netlist.proofs.Sizes.{bytes-le-most}
 use Rattle.image.specs.Meaning.Format.{bitAt, latchesIn, outputsIn, countIn, bytesIn}
@@ -62,7 +62,7 @@ module _ (b : List ℕ) (long : mostRead ≤ length b) where
 
   old-refused : {k : ℕ} → OldRefused cut k → OldRefused b k
   old-refused {k} (OldRefused.header l) = OldRefused.header (header-there whole l)
-  old-refused {k} (OldRefused.image f l) = OldRefused.image (free-there whole f) (subst (λ (c : List ℕ). Lowest (ImageFault c) k) (same-old f) l)
+  old-refused {k} (OldRefused.image f l) = OldRefused.image (free-there whole f) (subst (λ (c : List ℕ). First (ImageFault c) k) (same-old f) l)
 
   pub cut-input : (n : TablesLent) (s : Lent) (l t : List ℕ) → Answers cut n s l t → Answers b n s l t
   cut-input n s l t (Answers.old-refused k r z e) = Answers.old-refused k (old-refused r) z e

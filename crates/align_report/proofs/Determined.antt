@@ -3,9 +3,9 @@ use Prim.Native.Nat.{ℕ}
 use mathlib.Core.Path.{_≡_, sym, _∙_, ap}
 use mathlib.Core.List.{List}
 use lib.ListN.{length, take}
-use Rattle.memory.specs.Meaning.Refusals.{Free, Lowest}
+use Rattle.memory.specs.Meaning.Refusals.{Free, First}
 use Rattle.memory.specs.Meaning.Slices.{Zero}
-use Rattle.memory.proofs.Refusals.{lowest-unique}
+use Rattle.memory.proofs.Orders.{first-unique}
 use Rattle.memory.proofs.Slices.{zero-unique}
 use Rattle.netlist.specs.declared.Design.{Design}
 use Rattle.simulator.proofs.Values.{next-state-lt}
@@ -42,10 +42,10 @@ same-refusal x e p q = p ∙ ap (refusalText x) e ∙ sym q
 
 module _ (b : List ℕ) where
   old-number : {i j : ℕ} → OldRefused b i → OldRefused b j → i ≡ j
-  old-number (OldRefused.header x) (OldRefused.header y) = lowest-unique x y
+  old-number (OldRefused.header x) (OldRefused.header y) = first-unique x y
   old-number {i} (OldRefused.header x) (OldRefused.image f y) = absurd (f i (x .applies))
   old-number {i} {j} (OldRefused.image f x) (OldRefused.header y) = absurd (f j (y .applies))
-  old-number (OldRefused.image f x) (OldRefused.image g y) = lowest-unique x y
+  old-number (OldRefused.image f x) (OldRefused.image g y) = first-unique x y
 
   not-both : {i : ℕ} → OldRefused b i → OldAccepted b → ⊥
   not-both {i} (OldRefused.header x) a = a .header i (x .applies)
@@ -60,7 +60,7 @@ module _ (l k : List ℕ) (long : length l ≡ length k) where
     same-list x y p q = list-unique (machineOf a) (machineOf b) (sizesOf a b) (closed a b) l k long x y p q
 
     designs-unique : {t u : List ℕ} → AnswersDesigns a b n s l t → AnswersDesigns a b n s k u → (t ≡ u) × (l ≡ k)
-    designs-unique (AnswersDesigns.refused i x z p) (AnswersDesigns.refused j y w q) = (same-refusal Both (lowest-unique x y) p q, zero-unique l k long z w)
+    designs-unique (AnswersDesigns.refused i x z p) (AnswersDesigns.refused j y w q) = (same-refusal Both (first-unique x y) p q, zero-unique l k long z w)
     designs-unique (AnswersDesigns.refused i x z p) (AnswersDesigns.found-same y g fg m d q) = absurd (y i (x .applies))
     designs-unique (AnswersDesigns.refused i x z p) (AnswersDesigns.found-apart y g fg r m d q) = absurd (y i (x .applies))
     designs-unique (AnswersDesigns.found-same x f ff i c p) (AnswersDesigns.refused j y w q) = absurd (x j (y .applies))
@@ -85,7 +85,7 @@ module _ (l k : List ℕ) (long : length l ≡ length k) where
   answers-unique b n s (Answers.old-refused i x z p) (Answers.designs a y d) = absurd (not-both b x a)
   answers-unique b n s (Answers.new-refused i a x z p) (Answers.old-refused j y w q) = absurd (not-both b y a)
   answers-unique b n s (Answers.designs a x c) (Answers.old-refused j y w q) = absurd (not-both b y a)
-  answers-unique b n s (Answers.new-refused i a x z p) (Answers.new-refused j o y w q) = (same-refusal New (lowest-unique x y) p q, zero-unique l k long z w)
+  answers-unique b n s (Answers.new-refused i a x z p) (Answers.new-refused j o y w q) = (same-refusal New (first-unique x y) p q, zero-unique l k long z w)
   answers-unique b n s (Answers.new-refused i a x z p) (Answers.designs o y d) = absurd (y i (x .applies))
   answers-unique b n s (Answers.designs a x c) (Answers.new-refused j o y w q) = absurd (x j (y .applies))
   answers-unique b n s (Answers.designs a x c) (Answers.designs o y d) = designs-unique _ _ n s c d

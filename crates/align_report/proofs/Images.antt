@@ -6,7 +6,7 @@ use native.Mathlib.Omega.{arith}
 use lib.ListN.{length, take, drop, length-drop}
 use lib.Seq.{take-all}
 use Rattle.numbers.proofs.Order.{le-of-not-lt}
-use Rattle.memory.specs.Meaning.Refusals.{Free, Lowest}
+use Rattle.memory.specs.Meaning.Refusals.{Free, First}
 use Rattle.memory.specs.Meaning.Slices.{Zero}
 use Rattle.netlist.specs.declared.Design.{Design}
 use Rattle.image.specs.declared.Length.{Length}
@@ -51,7 +51,7 @@ module _ {b : List ℕ} {n : TablesLent} {s : Lent} {list′ text′ : List ℕ}
       → Zero list′ → length list′ ≡ s .written → Printed (refusalText Old q) text′ r → Reports b n s list′ text′ r
   old-unread {m} {k} {q} {f} w d e i z l p =
       let x = rw e at (d .keeps) in
-      let y = subst (λ (j : ℕ). Lowest (ImageFault (take j b)) k) (w .keeps .1) (x .0) in
+      let y = subst (λ (j : ℕ). First (ImageFault (take j b)) k) (w .keeps .1) (x .0) in
       let j : q ≡ k = rw e at i in
       record { answers = Answers.old-refused k (OldRefused.image (w .keeps .0) y) z (rw (← j) (p .is)); counts = p .counts; kept = l }
 
@@ -60,7 +60,7 @@ module _ {b : List ℕ} {n : TablesLent} {s : Lent} {list′ text′ : List ℕ}
       → Zero list′ → length list′ ≡ s .written → Printed (refusalText New q) text′ r → Reports b n s list′ text′ r
   new-unread {m} {k} {q} {f} {g} w d a u e i z l p =
       let x = rw e at (read-rest b m g u .keeps) in
-      let y = subst (λ (j : ℕ). Lowest (ImageFault (drop j b)) k) (w .keeps .1) (x .0) in
+      let y = subst (λ (j : ℕ). First (ImageFault (drop j b)) k) (w .keeps .1) (x .0) in
       let j : q ≡ k = rw e at i in
       record { answers = Answers.new-refused k (old-read w d a) y z (rw (← j) (p .is)); counts = p .counts; kept = l }
 

@@ -5,7 +5,7 @@ use mathlib.Core.Logic.{_⊎_, inl, inr}
 use mathlib.Core.List.{List}
 use native.Mathlib.Omega.{arith}
 use native.Mathlib.Nat.{mul-le-mul}
-use Rattle.memory.specs.Meaning.Refusals.{Free, Lowest}
+use Rattle.memory.specs.Meaning.Refusals.{Free, First}
 use Rattle.netlist.specs.declared.Design.{Design}
 use Rattle.netlist.specs.Meaning.Faults.{Accepted}
 use Rattle.simulator.specs.Meaning.Tables.{sizeOf, TableFault, InterfaceFault, BothFault}
@@ -37,5 +37,5 @@ only-10-16 x y (CompareFault.tabulating (BothFault.interface (InterfaceFault.oth
 only-10-16 x y (CompareFault.scratch h) = absurd (omega (arith, h, pairs-most x y))
 only-10-16 x y (CompareFault.list (short l w h)) = inr refl
 
-pub refused-both : (b : List ℕ) (m k : ℕ) → OldAccepted b → Free (ImageFault (newBytes b)) → Lowest (CompareFault (oldDesign b) (newDesign b) ownTables (ownSlices m)) k → (k ≡ 10) ⊎ (k ≡ 16)
+pub refused-both : (b : List ℕ) (m k : ℕ) → OldAccepted b → Free (ImageFault (newBytes b)) → First (CompareFault (oldDesign b) (newDesign b) ownTables (ownSlices m)) k → (k ≡ 10) ⊎ (k ≡ 16)
 refused-both b m k x y l = only-10-16 (image-accepted (oldBytes b) (x .image)) (image-accepted (newBytes b) y) (l .applies)

@@ -10,10 +10,14 @@ use denote.Enum.Declared.{tagOf}
 use Rattle.numbers.proofs.Order.{stable, le-of-not-lt}
 use Rattle.memory.specs.Meaning.Refusals.{Free, Reply, answer, refusal}
 use Rattle.memory.specs.Meaning.Slices.{Cleared}
+use Rattle.memory.specs.Working.Lowest.{Numbered}
+use Rattle.memory.proofs.Orders.{first-map}
+use Rattle.memory.proofs.Table.{first-of-lowest, lowest-of-first}
 use Rattle.netlist.specs.declared.Design.{Design}
 use Rattle.netlist.specs.Meaning.Faults.{Accepted}
 use Rattle.netlist.proofs.Numbers.{fault-bounds}
 use Rattle.simulator.specs.declared.TabulatedBoth.{TabulatedBoth}
+use Rattle.simulator.proofs.Faults.{both-numbered}
 use Rattle.simulator.proofs.Room.{zero-tables}
 use Rattle.simulator.specs.Meaning.Tables.{HoldsDesign, TableFault, InterfaceFault, BothFault, TabulatesBoth}
 use Rattle.machine.specs.declared.Sizes.{Sizes}
@@ -113,7 +117,7 @@ module _ (a b : Design) (n : TablesLent) (s : Lent) (next0 out0 next1 out1 : Lis
     tables = kept t c;
   }
   compared t e (Verdict.Refused m) j c = record {
-    keeps = (record { applies = fault-there m (j .keeps .0 .applies); lower = λ k l f. j .keeps .0 .lower k l (fault-back k f) }, record { old = zero-tables (c .0 .0) (c .0 .1); new = zero-tables (c .1 .0) (c .1 .1); list = j .keeps .1 });
+    keeps = (first-map fault-there fault-back (j .keeps .0), record { old = zero-tables (c .0 .0) (c .0 .1); new = zero-tables (c .1 .0) (c .1 .1); list = j .keeps .1 });
     tidy = j .tidy;
     tables = record { old-next = c .0 .0 .size ∙ size0; old-out = c .0 .1 .size ∙ size1; new-next = c .1 .0 .size ∙ size2; new-out = c .1 .1 .size ∙ size3 };
   }
@@ -145,6 +149,11 @@ both-most (BothFault.new (TableFault.out h)) = omega arith
 both-most (BothFault.interface (InterfaceFault.other-inputs d)) = omega arith
 both-most (BothFault.interface (InterfaceFault.other-outputs d)) = omega arith
 
+pub compare-numbered : {a b : Design} {n : TablesLent} {s : Lent} → Numbered (CompareFault a b n s)
+compare-numbered {a} {b} m (CompareFault.tabulating f) = both-numbered a b _ _ _ _ m f
+compare-numbered m (CompareFault.scratch h) = (omega arith, omega arith)
+compare-numbered m (CompareFault.list f) = (omega (arith, short-16 f), omega (arith, short-16 f))
+
 pub refused-first : (a b : Design) (n : TablesLent) (s : Lent) (k : ℕ) (next0 out0 next1 out1 depth reach written : List ℕ)
     → TabulatesBoth a b (n .old-next) (n .old-out) (n .new-next) (n .new-out) (TabulatedBoth.Refused k) next0 out0 next1 out1
     → Cleared (s .depth) depth → Cleared (s .reach) reach → Cleared (s .written) written
@@ -152,13 +161,13 @@ pub refused-first : (a b : Design) (n : TablesLent) (s : Lent) (k : ℕ) (next0 
 refused-first a b n s k next0 out0 next1 out1 depth reach written w x y z = record { compares = refused; counts = (refl, refl) }
   where
     lower : (m : ℕ) → m < k → CompareFault a b n s m → ⊥
-    lower m h (CompareFault.tabulating f) = w .keeps .0 .lower m h f
+    lower m h (CompareFault.tabulating f) = lowest-of-first (both-numbered a b _ _ _ _) (w .keeps .0) .lower m h f
     lower m h (CompareFault.scratch l) = omega (arith, both-most (w .keeps .0 .applies))
     lower m h (CompareFault.list f) = omega (arith, both-most (w .keeps .0 .applies), short-16 f)
 
     refused : Compares a b n s (tablesLeftOf next0 out0 next1 out1) (leftOf depth reach written) (Verdict.Refused k)
     refused = record {
-      keeps = (record { applies = CompareFault.tabulating (w .keeps .0 .applies); lower = lower }, record { old = w .keeps .1 .0; new = w .keeps .1 .1; list = z .zero });
+      keeps = (first-of-lowest compare-numbered (record { applies = CompareFault.tabulating (w .keeps .0 .applies); lower = lower }), record { old = w .keeps .1 .0; new = w .keeps .1 .1; list = z .zero });
       tidy = record { depth = x; reach = y; written = z .size };
       tables = record { old-next = w .size-next0; old-out = w .size-out0; new-next = w .size-next1; new-out = w .size-out1 };
     }

@@ -5,9 +5,9 @@ use mathlib.Core.Path.{_≡_, refl}
 use mathlib.Core.List.{List}
 use native.Mathlib.Omega.{arith}
 use lib.ListN.{length}
+use Rattle.memory.proofs.Table.{first-numbered}
 use Rattle.netlist.specs.declared.Design.{Design}
 use Rattle.netlist.specs.Meaning.Faults.{Accepted}
-use Rattle.netlist.proofs.Numbers.{fault-bounds}
 use Rattle.simulator.specs.declared.Tabulated.{Tabulated}
 use Rattle.simulator.specs.declared.TabulatedBoth.{TabulatedBoth}
 use Rattle.simulator.specs.Meaning.Tables.{HoldsDesign, TableFault, InterfaceFault, BothFault, Tabulates, TabulatesBoth}
@@ -106,18 +106,6 @@ pub driven-same : (a b : Design) (l : List ℕ) (r : Verdict) → Right a b l r 
 driven-same a b l _ (R.same n h all) d = (n, refl)
 driven-same a b l _ (R.apart q n i g lower) d = absurd (d q i g)
 
--- no condition has number 0, so a refusal by 0 keeps no promise
-fault-positive : {a b : Design} {n : TablesLent} {s : Lent} {m : ℕ} → CompareFault a b n s m → 0 < m
-fault-positive (CompareFault.tabulating (BothFault.old (TableFault.design f))) = omega (arith, fault-bounds f .0)
-fault-positive (CompareFault.tabulating (BothFault.old (TableFault.next h))) = omega arith
-fault-positive (CompareFault.tabulating (BothFault.old (TableFault.out h))) = omega arith
-fault-positive (CompareFault.tabulating (BothFault.new (TableFault.design f))) = omega (arith, fault-bounds f .0)
-fault-positive (CompareFault.tabulating (BothFault.new (TableFault.next h))) = omega arith
-fault-positive (CompareFault.tabulating (BothFault.new (TableFault.out h))) = omega arith
-fault-positive (CompareFault.tabulating (BothFault.interface (InterfaceFault.other-inputs d))) = omega arith
-fault-positive (CompareFault.tabulating (BothFault.interface (InterfaceFault.other-outputs d))) = omega arith
-fault-positive (CompareFault.scratch h) = omega arith
-fault-positive (CompareFault.list (short l w h)) = omega arith
-
+-- 0 stands in no order, so a refusal by 0 keeps no promise
 pub refused-0-shut : (a b : Design) (n : TablesLent) (s : Lent) (t : TablesLeft) (e : Left) → Compares a b n s t e (Verdict.Refused 0) → ⊥
-refused-0-shut a b n s t e h = omega (arith, fault-positive (h .keeps .0 .applies))
+refused-0-shut a b n s t e h = omega (arith, first-numbered (h .keeps .0) .0)

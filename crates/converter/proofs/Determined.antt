@@ -1,4 +1,4 @@
--- No two outputs meet one promise.
+-- No two outputs, as lists of bytes, meet one promise.
 use Prim.Native.Nat.{ℕ}
 use mathlib.Core.Path.{_≡_, refl, sym, _∙_, ap}
 use mathlib.Core.List.{List}
@@ -8,7 +8,8 @@ use Rattle.memory.proofs.Orders.{never-free, number-unique}
 use Rattle.drawing.specs.Meaning.Wires.{drawn}
 use Rattle.aiger.specs.Meaning.Format.{drawingIn}
 use Rattle.writer.proofs.Images.{one-image}
-use Rattle.writer.proofs.RoundTrip.{AreBytes, front-bytes}
+use Rattle.writer.proofs.RoundTrip.{front-bytes}
+use Rattle.writer.specs.Meaning.Writing.{AreBytes}
 use Rattle.pieces.specs.Meaning.Pieces.{lastField}
 use Rattle.converter.specs.Meaning.Output.{Outputs, Converts}
 

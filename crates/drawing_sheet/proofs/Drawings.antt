@@ -8,7 +8,7 @@ use native.Mathlib.Omega.{arith}
 use lib.Dec.{lit<, lit≤, eqb→eq}
 use lib.ListN.{getD}
 use Rattle.memory.specs.Meaning.Lists.{listOf}
-use Rattle.memory.specs.Meaning.Orders.{FirstIn}
+use Rattle.memory.proofs.Orders.{first-here}
 use Rattle.netlist.specs.Meaning.Loops.{Path}
 use Rattle.drawing.specs.Meaning.Lists.{has, place, sift}
 use Rattle.drawing.specs.Meaning.Wires.{drawn}
@@ -21,7 +21,7 @@ use Rattle.drawing_sheet.specs.Meaning.Drawings.{RefusedBy, Drawings}
 use Rattle.drawing_sheet.proofs.Texts.{by-size, by-line, by-drivers, by-loop, by-none}
 
 by-header : (s : String) → TextFault (bytes s) (header 17) → RefusedBy s 17
-by-header s f = record { entry = header 17; first = FirstIn.here f; numbered = refl }
+by-header s f = record { entry = header 17; first = first-here f; numbered = refl }
 
 -- the initial value 4 is neither 0, 1 nor 2
 other-initial : (4 ≤ 1) ⊎ (_≡_ {A = ℕ} 4 2) → ⊥

@@ -8,7 +8,8 @@ use native.Mathlib.Omega.{arith}
 use lib.Dec.{T, T-not, eqb, eqb→eq, eqb-refl, leb, leb→le, ltb, ltb→lt}
 use lib.ListN.{length, getD}
 use Rattle.numbers.proofs.Order.{not-lt}
-use Rattle.memory.specs.Meaning.Orders.{FirstIn, FirstNumber}
+use Rattle.memory.specs.Meaning.Orders.{FirstNumber}
+use Rattle.memory.proofs.Orders.{first-here, first-later}
 use Rattle.memory.proofs.Computed.{every, and-left, and-right, or-split, holds, every-at}
 use Rattle.netlist.specs.declared.Design.{Design}
 use Rattle.netlist.specs.Meaning.Limits.{mostInputs, mostLatches, mostOutputs, mostCells}
@@ -197,11 +198,11 @@ module _ (t : List ℕ) (word : wordAt t 0 0 ≡ aag) (six : length (wordsAt t 0
   no-17 = no-header-17 t word six sizes
 
   pub by-size : TextFault t (header 3) → Number 3
-  by-size f = record { entry = header 3; first = FirstIn.later no-17 (FirstIn.here f); numbered = refl }
+  by-size f = record { entry = header 3; first = first-later no-17 (first-here f); numbered = refl }
 
   module _ (few : T (sizeTest t)) where
     pub by-line : (j : ℕ) → j < linesIn t → LineFault (highestIn t) (kindIn t j) (wordsAt t (1 + j)) → Number 17
-    by-line j h f = record { entry = whole 17; first = FirstIn.later no-17 (FirstIn.later (no-header-3 t few) (FirstIn.here (TextFault.line j h f))); numbered = refl }
+    by-line j h f = record { entry = whole 17; first = first-later no-17 (first-later (no-header-3 t few) (first-here (TextFault.line j h f))); numbered = refl }
 
     module _ (lines : T (linesTest t)) where
       of-drawing : {n : ℕ} → TextFault t (whole n) → (n ≡ 17 → ⊥) → DrawingFault (drawingIn t) n
@@ -209,7 +210,7 @@ module _ (t : List ℕ) (word : wordAt t 0 0 ≡ aag) (six : length (wordsAt t 0
       of-drawing (TextFault.drawing n f) q = f
 
       pub by-drivers : DrawingFault (drawingIn t) 18 → Number 18
-      by-drivers f = record { entry = whole 18; first = FirstIn.later no-17 (FirstIn.later (no-header-3 t few) (FirstIn.later (no-whole-17 t lines) (FirstIn.here (TextFault.drawing 18 f)))); numbered = refl }
+      by-drivers f = record { entry = whole 18; first = first-later no-17 (first-later (no-header-3 t few) (first-later (no-whole-17 t lines) (first-here (TextFault.drawing 18 f)))); numbered = refl }
 
       module _ (drivers : T (driversTest (drawingIn t))) (cells : T (leb (drawingIn t .ands + length (negated (drawingIn t))) mostCells)) where
         no-18 : TextFault t (whole 18) → ⊥
@@ -219,7 +220,7 @@ module _ (t : List ℕ) (word : wordAt t 0 0 ≡ aag) (six : length (wordsAt t 0
         no-3 f = no-drawing-3 (drawingIn t) cells (of-drawing f (λ q. omega arith))
 
         pub by-loop : (i : ℕ) → Path (drawn (drawingIn t)) i i → Number 9
-        by-loop i p = record { entry = whole 9; first = FirstIn.later no-17 (FirstIn.later (no-header-3 t few) (FirstIn.later (no-whole-17 t lines) (FirstIn.later no-18 (FirstIn.later no-3 (FirstIn.here (TextFault.drawing 9 (DrawingFault.loop (DesignFault.loop i p)))))))); numbered = refl }
+        by-loop i p = record { entry = whole 9; first = first-later no-17 (first-later (no-header-3 t few) (first-later (no-whole-17 t lines) (first-later no-18 (first-later no-3 (first-here (TextFault.drawing 9 (DrawingFault.loop (DesignFault.loop i p)))))))); numbered = refl }
 
         pub by-none : (rank : ℕ → ℕ) → T (every (rankTest (drawn (drawingIn t)) rank) (drawn (drawingIn t) .count)) → (p : Part) → TextFault t p → ⊥
         by-none rank r p f = go (listed f) f

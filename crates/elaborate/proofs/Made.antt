@@ -9,7 +9,7 @@ use borrow.Author.Tests.{le-ltb}
 use lib.ListN.{length, getD}
 use lib.Seq.{ext-getD}
 use Rattle.memory.specs.Meaning.Lists.{listOf}
-use Rattle.memory.specs.Meaning.Refusals.{LowestOrNone}
+use Rattle.memory.specs.Meaning.Refusals.{FirstOrNone}
 use Rattle.memory.specs.Working.Filling.{Filled}
 use Rattle.memory.proofs.Lists.{length-listOf, getD-listOf, filled-listOf}
 use Rattle.netlist.specs.declared.Cell.{Cell}
@@ -23,6 +23,7 @@ use Rattle.image.specs.declared.Reading.{Reading}
 use Rattle.image.specs.Meaning.Reading.{emptyDesign}
 use Rattle.drawing.specs.declared.Drawing.{Drawing}
 use Rattle.memory.specs.Meaning.Orders.{FirstIn}
+use Rattle.memory.proofs.Orders.{first-here, first-later}
 use Rattle.drawing.specs.Meaning.Numbers.{next, shown}
 use Rattle.drawing.specs.Meaning.Wires.{negated, netOf, cellOf, drawn}
 use Rattle.drawing.specs.Meaning.Faults.{DrawingFault}
@@ -65,17 +66,17 @@ turned-away : {d : Drawing} {r : Reading} {n : ℕ} → FirstIn (DrawingFault d)
 turned-away {n = n} f a e = record { keeps = rw a (record { entry = n; first = f; numbered = refl }, e) }
 
 pub draws-18 : {d : Drawing} {r : Reading} → DrawingFault d 18 → r .answer ≡ Refused 18 → r .design ≡ emptyDesign → Draws d r
-draws-18 f = turned-away (FirstIn.here f)
+draws-18 f = turned-away (first-here f)
 
 pub draws-3 : {d : Drawing} {r : Reading} → (DrawingFault d 18 → ⊥) → mostCells < d .ands + length (negated d) → r .answer ≡ Refused 3 → r .design ≡ emptyDesign → Draws d r
-draws-3 p l = turned-away (FirstIn.later p (FirstIn.here (DrawingFault.cells l)))
+draws-3 p l = turned-away (first-later p (first-here (DrawingFault.cells l)))
 
 module _ {d : Drawing} (s : Spelled d) (served : DrawingFault d 18 → ⊥) (few : d .ands + length (negated d) ≤ mostCells) where
   no-3 : DrawingFault d 3 → ⊥
   no-3 (DrawingFault.cells l) = omega (arith, few, l)
 
-  pub draws-9 : {r : Reading} {c : Design} {m : ℕ} → c ≡ drawn d → LowestOrNone (DesignFault c) m → (m ≡ 0 → ⊥) → r .answer ≡ Refused 9 → r .design ≡ emptyDesign → Draws d r
-  draws-9 {m = m} is low z = turned-away (FirstIn.later served (FirstIn.later no-3 (FirstIn.here (go (kind fault)))))
+  pub draws-9 : {r : Reading} {c : Design} {m : ℕ} → c ≡ drawn d → FirstOrNone (DesignFault c) m → (m ≡ 0 → ⊥) → r .answer ≡ Refused 9 → r .design ≡ emptyDesign → Draws d r
+  draws-9 {m = m} is low z = turned-away (first-later served (first-later no-3 (first-here (go (kind fault)))))
     where
       fault : DesignFault (drawn d) m
       fault = rw is at (low .some z .applies)
@@ -85,7 +86,7 @@ module _ {d : Drawing} (s : Spelled d) (served : DrawingFault d 18 → ⊥) (few
       go (five q f) = absurd (drawn-5 s served few f)
       go (nine q i p) = DrawingFault.loop (DesignFault.loop i p)
 
-  pub draws-none : {c : Design} {m : ℕ} → c ≡ drawn d → LowestOrNone (DesignFault c) m → m ≡ 0 → Draws d (record { answer = Accepted; design = c })
+  pub draws-none : {c : Design} {m : ℕ} → c ≡ drawn d → FirstOrNone (DesignFault c) m → m ≡ 0 → Draws d (record { answer = Accepted; design = c })
   draws-none {c} is low z = record { keeps = (free, is) }
     where
       free : (n : ℕ) → DrawingFault d n → ⊥

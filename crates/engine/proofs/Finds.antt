@@ -6,15 +6,17 @@ use native.Mathlib.Omega.{arith}
 use lib.ListN.{length, take}
 use lib.Seq.{length-take-le}
 use Rattle.numbers.proofs.Order.{not-lt, lt-of-not-le}
-use Rattle.memory.specs.Meaning.Refusals.{Free, Lowest, LowestOrNone, Keeps}
+use Rattle.memory.specs.Meaning.Refusals.{Free, First, FirstOrNone, Keeps}
 use Rattle.memory.specs.Meaning.Slices.{Zero}
-use Rattle.memory.proofs.Refusals.{some-number, no-number}
+use Rattle.memory.specs.Working.Lowest.{Numbered}
+use Rattle.memory.proofs.Refusals.{some-number, lowest-number, no-number, first-early}
+use Rattle.memory.proofs.Table.{first-of-lowest}
 use Rattle.machine.specs.declared.Found.{Found}
 use Rattle.machine.specs.declared.Pair.{Pair}
 use Rattle.machine.specs.Meaning.Tables.{Tables, In}
 use Rattle.machine.specs.Meaning.Faults.{TablesFault}
 use Rattle.seek.specs.Working.Steps.{Outcome, missing, short, steps}
-use Rattle.seek.proofs.Refusals.{fault-most}
+use Rattle.seek.proofs.Refusals.{fault-most, tables-numbered}
 use Rattle.machine.specs.Meaning.Lent.{Lent, Listed}
 use Rattle.engine.specs.Meaning.Pairs.{foundReply, StateFault, PairFault}
 
@@ -25,24 +27,29 @@ module _ {t : Tables} {room : ℕ} {p : Pair} where
   state-most (StateFault.old-state h) = omega arith
   state-most (StateFault.new-state h) = omega arith
 
-  pub at-call : {n : ℕ} → (n ≡ 0 → ⊥) → LowestOrNone (TablesFault t room) n → LowestOrNone (StateFault t room p) n
-  at-call {n} e l = some-number e (record { applies = StateFault.call (l .some e .applies); lower = λ m h f. go f h })
+  pub state-numbered : Numbered (StateFault t room p)
+  state-numbered n (StateFault.call f) = tables-numbered n f
+  state-numbered n (StateFault.old-state h) = (omega arith, omega arith)
+  state-numbered n (StateFault.new-state h) = (omega arith, omega arith)
+
+  pub at-call : {n : ℕ} → (n ≡ 0 → ⊥) → FirstOrNone (TablesFault t room) n → FirstOrNone (StateFault t room p) n
+  at-call e l = some-number (first-early (TablesFault t room) (StateFault t room p) 14 state-numbered (λ m f. StateFault.call f) (λ m f h. go f h) (omega (arith, fault-most (l .some e .applies))) (l .some e))
     where
-      go : {m : ℕ} → StateFault t room p m → m < n → ⊥
-      go (StateFault.call f) h = l .some e .lower _ h f
-      go (StateFault.old-state o) h = omega (arith, fault-most (l .some e .applies))
-      go (StateFault.new-state o) h = omega (arith, fault-most (l .some e .applies))
+      go : {m : ℕ} → StateFault t room p m → m < 14 → TablesFault t room m
+      go (StateFault.call f) h = f
+      go (StateFault.old-state o) h = absurd (omega arith)
+      go (StateFault.new-state o) h = absurd (omega arith)
 
   module _ (none : Free (TablesFault t room)) where
-    pub at-14 : StateFault t room p 14 → LowestOrNone (StateFault t room p) 14
-    at-14 s = some-number (λ e. omega arith) (record { applies = s; lower = λ m h f. go f h })
+    pub at-14 : StateFault t room p 14 → FirstOrNone (StateFault t room p) 14
+    at-14 s = lowest-number state-numbered (record { applies = s; lower = λ m h f. go f h })
       where
         go : {m : ℕ} → StateFault t room p m → m < 14 → ⊥
         go (StateFault.call f) h = none _ f
         go (StateFault.old-state o) h = omega arith
         go (StateFault.new-state o) h = omega arith
 
-    pub at-none : In (t .sizes) p → LowestOrNone (StateFault t room p) 0
+    pub at-none : In (t .sizes) p → FirstOrNone (StateFault t room p) 0
     at-none i = no-number (λ m f. go f)
       where
         go : {m : ℕ} → StateFault t room p m → ⊥
@@ -63,13 +70,18 @@ module _ (t : Tables) (s : Lent) (p : Pair) (None : Type 0) (Sought : List ℕ �
   abbrev Wrong : ℕ → Type 0
   Wrong n = PairFault t s p None Sought n
 
-  pub lowest-state : {n : ℕ} → Lowest (StateFault t (min (s .depth) (s .reach)) p) n → Lowest Wrong n
-  lowest-state {n} l = record { applies = PairFault.state (l .applies); lower = λ m h f. go f h }
+  pub pair-numbered : Numbered (PairFault t s p None Sought)
+  pair-numbered n (PairFault.state f) = state-numbered n f
+  pair-numbered n (PairFault.none o) = (omega arith, omega arith)
+  pair-numbered n (PairFault.short-list l o h) = (omega arith, omega arith)
+
+  pub lowest-state : {n : ℕ} → First (StateFault t (min (s .depth) (s .reach)) p) n → First Wrong n
+  lowest-state l = first-early (StateFault t (min (s .depth) (s .reach)) p) Wrong 15 pair-numbered (λ m f. PairFault.state f) (λ m f h. go f h) (omega (arith, state-most (l .applies))) l
     where
-      go : {m : ℕ} → Wrong m → m < n → ⊥
-      go (PairFault.state f) h = l .lower _ h f
-      go (PairFault.none o) h = omega (arith, state-most (l .applies))
-      go (PairFault.short-list l′ o k) h = omega (arith, state-most (l .applies))
+      go : {m : ℕ} → Wrong m → m < 15 → StateFault t (min (s .depth) (s .reach)) p m
+      go (PairFault.state f) h = f
+      go (PairFault.none o) h = absurd (omega arith)
+      go (PairFault.short-list l′ o k) h = absurd (omega arith)
 
   module _ (free : Free (StateFault t (min (s .depth) (s .reach)) p)) where
     past-14 : {m : ℕ} → Wrong m → 15 ≤ m
@@ -90,9 +102,9 @@ module _ (t : Tables) (s : Lent) (p : Pair) (None : Type 0) (Sought : List ℕ �
     -- what is sought is one list, and the slice was cleared
     pub keeps-outcome : ((a b : List ℕ) → Sought a → Sought b → a ≡ b) → {list list′ : List ℕ} {r : Found} → Outcome None Sought list list′ r
         → length list ≡ s .written → length list′ ≡ s .written → Zero list → Keeps Wrong (Listed Sought list′) (Zero list′) (foundReply r)
-    keeps-outcome unique (missing none q) e e′ z = (record { applies = PairFault.none none; lower = λ m h f. not-lt (past-14 f) h }, rw q z)
+    keeps-outcome unique (missing none q) e e′ z = (first-of-lowest pair-numbered (record { applies = PairFault.none none; lower = λ m h f. not-lt (past-14 f) h }), rw q z)
     keeps-outcome unique (short some l has h q) e e′ z =
-        (record { applies = PairFault.short-list l has (omega arith); lower = λ m h f. not-lt (past-15 some f) h }, rw q z)
+        (first-of-lowest pair-numbered (record { applies = PairFault.short-list l has (omega arith); lower = λ m h f. not-lt (past-15 some f) h }), rw q z)
     keeps-outcome unique {list} {list′} (steps some n fits has same) e e′ z = (
       λ m f. past-16 some (λ l o. omega (arith, ap length (unique l (take n list′) o has), length-take-le n list′ (omega arith))) f,
       record { sought = has; fits = omega arith; beyond = λ i h. same i h ∙ z i (omega arith) },

@@ -3,7 +3,8 @@ use Prim.Native.Nat.{ℕ}
 use mathlib.Core.Path.{_≡_, refl, sym, _∙_, ap}
 use mathlib.Core.List.{List}
 use Rattle.memory.specs.Meaning.Refusals.{Reply, answer, refusal}
-use Rattle.memory.proofs.Refusals.{reply-unique, lowest-unique}
+use Rattle.memory.proofs.Orders.{first-unique}
+use Rattle.memory.proofs.Refusals.{reply-unique}
 use Rattle.netlist.specs.declared.Design.{Design}
 use Rattle.image.specs.declared.Length.{Length}
 use Rattle.image.specs.declared.Length.the-variants as Length·variants
@@ -38,7 +39,7 @@ one-reading : {b : List ℕ} (x y : Answer) (d c : Design) → ReadsImage b (rec
 one-reading {b} Accepted Accepted d c p q = (refl, p .keeps .1 ∙ sym (q .keeps .1))
 one-reading {b} Accepted (Refused m) d c p q = absurd (p .keeps .0 m (q .keeps .0 .applies))
 one-reading {b} (Refused n) Accepted d c p q = absurd (q .keeps .0 n (p .keeps .0 .applies))
-one-reading {b} (Refused n) (Refused m) d c p q = (ap Refused (lowest-unique (p .keeps .0) (q .keeps .0)), p .keeps .1 ∙ sym (q .keeps .1))
+one-reading {b} (Refused n) (Refused m) d c p q = (ap Refused (first-unique (p .keeps .0) (q .keeps .0)), p .keeps .1 ∙ sym (q .keeps .1))
 
 pub one-reply : (b : List ℕ) (r t : Reading) → ReadsImage b r → ReadsImage b t → (r .answer ≡ t .answer) × (r .design ≡ t .design)
 one-reply b r t p q = one-reading (r .answer) (t .answer) (r .design) (t .design) p q

@@ -8,12 +8,15 @@ use native.Mathlib.Decide.{decLt}
 use lib.ListN.{length}
 use Rattle.numbers.proofs.Order.{le-of-not-lt}
 use Rattle.numbers.proofs.Digits.{horner-cong}
-use Rattle.memory.specs.Meaning.Refusals.{Free, Lowest}
+use Rattle.memory.specs.Meaning.Refusals.{Free, First}
+use Rattle.memory.specs.Working.Lowest.{Lowest}
+use Rattle.memory.proofs.Table.{first-of-lowest, lowest-of-first}
 use Rattle.netlist.specs.Meaning.Limits.{mostBytes, sizeBits, countBits, kindBits, netBits, inputsAt, latchesAt, outputsAt, countAt}
 use Rattle.netlist.proofs.Sizes.{bytes-le-most}
 use Rattle.image.specs.Meaning.Format.{bitAt, fieldAt, versionIn, inputsIn, latchesIn, outputsIn, countIn, netsIn, bitsIn, bytesIn, cellAt, kindIn, firstIn, secondIn, tailIn}
 use Rattle.image.specs.Meaning.Faults.{ImageFault, HeaderFault}
 use Rattle.image.specs.Working.Scanning.{WithinLimits}
+use Rattle.image.proofs.Refusals.{image-numbered, header-numbered}
 
 -- both are longer than any image, and agree as far as the largest goes
 pub record SameFront (b c : List ℕ) : Type 0 where
@@ -108,13 +111,15 @@ module _ {b c : List ℕ} (f : SameFront b c) where
   lower-side h (inl l) = inl (omega arith)
   lower-side h (inr w) = inr (limits-there f w)
 
-  pub header-there : {k : ℕ} → Lowest (HeaderFault b) k → Lowest (HeaderFault c) k
-  header-there {k} l =
+  pub header-there : {k : ℕ} → First (HeaderFault b) k → First (HeaderFault c) k
+  header-there {k} g =
+      let l = lowest-of-first header-numbered g in
       let s = side k (λ m h q x. l .lower m h (x, q)) in
-      record {
+      first-of-lowest header-numbered
+      (record {
         applies = (there f (omega (arith, l .applies .1)) s (l .applies .0), l .applies .1);
         lower = λ m h x. l .lower m h (there (front-back f) (omega (arith, x .1)) (lower-side h s) (x .0), x .1);
-      }
+      })
 
   pub free-there : Free (HeaderFault b) → Free (HeaderFault c)
   free-there l m x = l m (there (front-back f) (omega (arith, x .1)) (inr (limits-there f (within 4 (omega arith) (λ n h q y. l n (y, q))))) (x .0), x .1)
@@ -126,15 +131,19 @@ module _ {b c : List ℕ} (f : SameFront b c) where
   pub never-free : Free (ImageFault b) → ⊥
   never-free l = l 8 (long-over (within 4 (omega arith) (λ n h q y. l n y)))
 
-  pub lowest-there : {k : ℕ} → Lowest (ImageFault b) k → Lowest (ImageFault c) k
-  lowest-there {k} l =
+  pub lowest-there : {k : ℕ} → First (ImageFault b) k → First (ImageFault c) k
+  lowest-there {k} g =
       let s = side k (λ m h q x. l .lower m h x) in
       let e = eight s in
-      record {
+      first-of-lowest image-numbered
+      (record {
         applies = there f e s (l .applies);
         lower = λ m h x. l .lower m h (there (front-back f) (omega arith) (lower-side h s) x);
-      }
+      })
     where
+      l : Lowest (ImageFault b) k
+      l = lowest-of-first image-numbered g
+
       eight : (k ≤ 3) ⊎ WithinLimits b → k ≤ 8
       eight (inl h) = omega arith
       eight (inr w) = le-of-not-lt (λ h. l .lower 8 h (long-over w))

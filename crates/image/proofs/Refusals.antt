@@ -1,24 +1,49 @@
 -- Which numbers apply to an image.
-use Prim.Native.Nat.{ℕ, _*_, _<_, _≤_}
+use Prim.Native.Nat.{ℕ, zero, suc, _*_, _<_, _≤_}
 use mathlib.Core.Path.{_≡_}
 use mathlib.Core.List.{List}
 use native.Mathlib.Omega.{arith}
 use native.Mathlib.Nat.{not-suc-le-zero}
-use lib.Dec.{lit≤}
+use lib.Dec.{lit<, lit≤}
 use lib.ListN.{length}
 use Rattle.numbers.proofs.Order.{not-lt, le-of-not-lt}
-use Rattle.memory.specs.Meaning.Refusals.{Free, LowestOrNone}
-use Rattle.memory.proofs.Refusals.{Clean, clean-more, some-number, no-number}
+use Rattle.memory.specs.Meaning.Refusals.{Free, FirstOrNone}
+use Rattle.memory.specs.Working.Lowest.{Numbered}
+use Rattle.memory.proofs.Refusals.{Clean, clean-more, lowest-number, no-number}
 use Rattle.image.specs.Meaning.Format.{bitAt, versionIn, countIn, bitsIn, bytesIn, kindIn, secondIn}
 use Rattle.image.specs.Meaning.Faults.{ImageFault, HeaderFault}
 use Rattle.image.specs.Working.Scanning.{WithinLimits}
 
-pub refused : {P : ℕ → Type 0} (n : ℕ) → (n ≡ 0 → ⊥) → P n → Clean P n → LowestOrNone P n
-refused n z p c = some-number z (record { applies = p; lower = c })
-
 -- no number is 0
 pub no-0 : {b : List ℕ} → ImageFault b 0 → ⊥
 no-0 = elim [ ]
+
+-- no number is over 9
+pub small : {b : List ℕ} {n : ℕ} → ImageFault b n → n < 10
+small (ImageFault.short l) = lit< tt
+small (ImageFault.version l) = lit< tt
+small (ImageFault.inputs l) = lit< tt
+small (ImageFault.latches l) = lit< tt
+small (ImageFault.outputs l) = lit< tt
+small (ImageFault.cells l) = lit< tt
+small (ImageFault.ends l) = lit< tt
+small (ImageFault.first i h l) = lit< tt
+small (ImageFault.second i h l) = lit< tt
+small (ImageFault.tail t h l) = lit< tt
+small (ImageFault.unread i h k l) = lit< tt
+small (ImageFault.pad i h k l) = lit< tt
+small (ImageFault.over l) = lit< tt
+small (ImageFault.loop i p) = lit< tt
+
+pub image-numbered : {b : List ℕ} → Numbered (ImageFault b)
+image-numbered zero f = absurd (no-0 f)
+image-numbered (suc n) f = (omega arith, omega (arith, small f))
+
+pub header-numbered : {b : List ℕ} → Numbered (HeaderFault b)
+header-numbered n f = image-numbered n (f .0)
+
+pub refused : {b : List ℕ} (n : ℕ) → ImageFault b n → Clean (ImageFault b) n → FirstOrNone (ImageFault b) n
+refused n p c = lowest-number image-numbered (record { applies = p; lower = c })
 
 -- when each number does not apply
 pub no-1 : {b : List ℕ} → 4 ≤ length b → ImageFault b 1 → ⊥
@@ -59,10 +84,10 @@ pub clean-4 : {b : List ℕ} → 4 ≤ length b → versionIn b ≡ 1 → (Image
 clean-4 {b} h v s = clean-more (ImageFault b) 3 (clean-3 h v) s
 
 -- a number of the header
-pub head : {b : List ℕ} (n : ℕ) → (n ≡ 0 → ⊥) → n ≤ 4 → ImageFault b n → Clean (ImageFault b) n → LowestOrNone (HeaderFault b) n
-head n z h f c = refused n z (f, h) (λ m l g. c m l (g .0))
+pub head : {b : List ℕ} (n : ℕ) → n ≤ 4 → ImageFault b n → Clean (ImageFault b) n → FirstOrNone (HeaderFault b) n
+head n h f c = lowest-number header-numbered (record { applies = (f, h); lower = λ m l g. c m l (g .0) })
 
-pub no-head : {b : List ℕ} → Clean (ImageFault b) 4 → (ImageFault b 4 → ⊥) → LowestOrNone (HeaderFault b) 0
+pub no-head : {b : List ℕ} → Clean (ImageFault b) 4 → (ImageFault b 4 → ⊥) → FirstOrNone (HeaderFault b) 0
 no-head {b} c e = no-number (λ m f. clean-more (ImageFault b) 4 c e m (omega (arith, f .1)) (f .0))
 
 -- what the header's refusals leave

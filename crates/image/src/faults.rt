@@ -1,6 +1,6 @@
 // What is wrong with an image.
 ghost use Prim.Native.Nat.{_<_, _≤_};
-ghost use Rattle.memory.specs.Meaning.Refusals.{Free, LowestOrNone};
+ghost use Rattle.memory.specs.Meaning.Refusals.{Free, FirstOrNone};
 ghost use Rattle.memory.specs.Working.Tests.{Tells, Splits};
 ghost use Rattle.netlist.specs.Meaning.Faults.{DesignFault};
 ghost use Rattle.image.specs.Meaning.Format.{decoded, countIn};
@@ -12,7 +12,7 @@ use netlist::Image;
 
 // The lowest number up to 4 that applies, or 0.
 pub(crate) fn header_fault(image: &[u8]) -> u8
-    ensures { λ r. ⌜ LowestOrNone (HeaderFault (now (image .entry))) r ⌝ }
+    ensures { λ r. ⌜ FirstOrNone (HeaderFault (now (image .entry))) r ⌝ }
 {
     if image.len() < 4 {
         return 1;
@@ -50,8 +50,8 @@ fn over_limit(image: &[u8]) -> bool
 // The lowest number that applies to an image whose header is sound, or 0. `found` is what its design was found to have: that is 5 for
 // a net that is read, and 9. Nets that no cell reads, the pad and the length are left to look at.
 pub(crate) fn field_fault(image: &[u8], found: u8) -> u8
-    requires { ⌜ (Free (HeaderFault (now image))) × (LowestOrNone (DesignFault (decoded (now image))) found) ⌝ }
-    ensures { λ r. ⌜ LowestOrNone (ImageFault (now (image .entry))) r ⌝ }
+    requires { ⌜ (Free (HeaderFault (now image))) × (FirstOrNone (DesignFault (decoded (now image))) found) ⌝ }
+    ensures { λ r. ⌜ FirstOrNone (ImageFault (now (image .entry))) r ⌝ }
 {
     if found == 5 {
         return 5;

@@ -1,5 +1,6 @@
-pub mod Refusals
 pub mod Orders
+pub mod Table
+pub mod Refusals
 pub mod Slices
 pub mod Filling
 pub mod Tests

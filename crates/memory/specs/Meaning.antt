@@ -1,5 +1,5 @@
 -- What has to be believed: the definitions that contracts cite.
-pub mod Refusals
 pub mod Orders
+pub mod Refusals
 pub mod Slices
 pub mod Lists

@@ -3,7 +3,7 @@ ghost use mathlib.Core.Path.{_≡_};
 ghost use Prim.Native.Nat.{min};
 ghost use lib.ListN.{length};
 ghost use Rattle.memory.specs.Meaning.Slices.{Cleared};
-ghost use Rattle.memory.specs.Meaning.Refusals.{lowerNumber};
+ghost use Rattle.memory.specs.Meaning.Refusals.{earlierNumber};
 
 // Every byte becomes 0.
 pub fn clear_bytes(bytes: &mut [u8])
@@ -46,9 +46,9 @@ pub fn shorter(one: usize, other: usize) -> usize
     other
 }
 
-// The lower of two numbers of refusals, of which 0 is none.
-pub fn lower_number(a: u8, b: u8) -> u8
-    ensures { λ r. ⌜ r ≡ lowerNumber a b ⌝ }
+// Of two numbers of refusals, of which 0 is none, the one that comes first: in document 01's order the lower.
+pub fn earlier_number(a: u8, b: u8) -> u8
+    ensures { λ r. ⌜ r ≡ earlierNumber a b ⌝ }
 {
     if a == 0 {
         return b;

@@ -7,8 +7,9 @@ use native.Mathlib.Decide.{decLt}
 use lib.ListN.{getD}
 use Rattle.numbers.proofs.Order.{not-lt, le-of-not-lt, lt-of-not-le}
 use Rattle.memory.specs.Working.Tests.{Tells, Splits}
-use Rattle.memory.specs.Meaning.Refusals.{LowestOrNone}
-use Rattle.memory.proofs.Refusals.{some-number}
+use Rattle.memory.specs.Meaning.Refusals.{FirstOrNone}
+use Rattle.memory.specs.Working.Lowest.{Numbered}
+use Rattle.memory.proofs.Refusals.{lowest-number}
 use Rattle.netlist.specs.declared.Design.{Design}
 use Rattle.netlist.specs.Meaning.Gates.{firstOf, secondOf}
 use Rattle.netlist.specs.Meaning.Nets.{netsOf, gateAt}
@@ -41,6 +42,9 @@ fault-bounds {d} {m} f = go (kind f)
     go (five e g) = (omega arith, omega arith)
     go (nine e i p) = (omega arith, omega arith)
 
+pub design-numbered : {d : Design} → Numbered (DesignFault d)
+design-numbered m f = (omega (arith, fault-bounds f .0), omega (arith, fault-bounds f .1))
+
 -- no loop, and neither 3 nor 5
 pub accepted-of : {d : Design} → (DesignFault d 3 → ⊥) → (DesignFault d 5 → ⊥) → ((i : ℕ) → OnLoop d i → ⊥) → Accepted d
 accepted-of {d} a b c m f = go (kind f)
@@ -50,19 +54,19 @@ accepted-of {d} a b c m f = go (kind f)
     go (five e g) = b g
     go (nine e i p) = c i p
 
-pub lowest-3 : {d : Design} → DesignFault d 3 → LowestOrNone (DesignFault d) 3
-lowest-3 f = some-number (λ e. omega arith) (record { applies = f; lower = λ m h g. omega (arith, fault-bounds g .0) })
+pub lowest-3 : {d : Design} → DesignFault d 3 → FirstOrNone (DesignFault d) 3
+lowest-3 f = lowest-number design-numbered (record { applies = f; lower = λ m h g. omega (arith, fault-bounds g .0) })
 
-pub lowest-5 : {d : Design} → (DesignFault d 3 → ⊥) → DesignFault d 5 → LowestOrNone (DesignFault d) 5
-lowest-5 {d} a f = some-number (λ e. omega arith) (record { applies = f; lower = λ m h g. go m h (kind g) })
+pub lowest-5 : {d : Design} → (DesignFault d 3 → ⊥) → DesignFault d 5 → FirstOrNone (DesignFault d) 5
+lowest-5 {d} a f = lowest-number design-numbered (record { applies = f; lower = λ m h g. go m h (kind g) })
   where
     go : (m : ℕ) → m < 5 → Kind d m → ⊥
     go m h (three e g) = a g
     go m h (five e g) = omega arith
     go m h (nine e i p) = omega arith
 
-pub lowest-9 : {d : Design} → (DesignFault d 3 → ⊥) → (DesignFault d 5 → ⊥) → (i : ℕ) × OnLoop d i → LowestOrNone (DesignFault d) 9
-lowest-9 {d} a b l = some-number (λ e. omega arith) (record { applies = DesignFault.loop (l .0) (l .1); lower = λ m h g. go m h (kind g) })
+pub lowest-9 : {d : Design} → (DesignFault d 3 → ⊥) → (DesignFault d 5 → ⊥) → (i : ℕ) × OnLoop d i → FirstOrNone (DesignFault d) 9
+lowest-9 {d} a b l = lowest-number design-numbered (record { applies = DesignFault.loop (l .0) (l .1); lower = λ m h g. go m h (kind g) })
   where
     go : (m : ℕ) → m < 9 → Kind d m → ⊥
     go m h (three e g) = a g

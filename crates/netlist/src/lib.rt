@@ -4,7 +4,7 @@ pub mod order;
 
 ghost use mathlib.Core.Path.{_≡_};
 ghost use lib.ListN.{getD};
-ghost use Rattle.memory.specs.Meaning.Refusals.{LowestOrNone};
+ghost use Rattle.memory.specs.Meaning.Refusals.{FirstOrNone};
 ghost use Rattle.netlist.specs.Meaning.Gates.{kindOf, firstOf, secondOf};
 ghost use Rattle.netlist.specs.Meaning.Faults.{DesignFault};
 ghost use Rattle.netlist.specs.Meaning.Limits.{AreLimits};
@@ -102,7 +102,7 @@ pub struct Design {
 
 // The lowest of 3, 5 and 9 that applies to a design, or 0.
 pub fn fault_of(d: Design) -> u8
-    ensures { λ r. ⌜ LowestOrNone (DesignFault d) r ⌝ }
+    ensures { λ r. ⌜ FirstOrNone (DesignFault d) r ⌝ }
 {
     let plan = order::levelize(d);
     plan.number

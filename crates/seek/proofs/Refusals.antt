@@ -5,8 +5,9 @@ use native.Mathlib.Omega.{arith}
 use native.Mathlib.Decide.{decLt}
 use lib.ListN.{getD}
 use Rattle.numbers.proofs.Order.{not-lt, le-of-not-lt}
-use Rattle.memory.specs.Meaning.Refusals.{Free, LowestOrNone}
-use Rattle.memory.proofs.Refusals.{some-number, no-number}
+use Rattle.memory.specs.Meaning.Refusals.{Free, FirstOrNone}
+use Rattle.memory.specs.Working.Lowest.{Numbered}
+use Rattle.memory.proofs.Refusals.{lowest-number, no-number}
 use Rattle.machine.specs.declared.Sizes.{Sizes}
 use Rattle.machine.specs.Meaning.Tables.{Tables, pairs}
 use Rattle.search.specs.Working.{Few}
@@ -44,6 +45,9 @@ module _ {t : Tables} {room : ℕ} where
   fault-most (TablesFault.old-leads o) = omega arith
   fault-most (TablesFault.new-leads o) = omega arith
 
+  pub tables-numbered : Numbered (TablesFault t room)
+  tables-numbered m f = (omega (arith, fault-some f), omega (arith, fault-most f))
+
   past-11 : InRange (t .sizes) → {m : ℕ} → TablesFault t room m → 12 ≤ m
   past-11 r (TablesFault.range o) = absurd (range-no r o)
   past-11 r (TablesFault.short o) = omega arith
@@ -57,19 +61,19 @@ module _ {t : Tables} {room : ℕ} where
   past-12 r l (TablesFault.new-leads o) = omega arith
 
   -- n applies, and what applies is at least n
-  lowest : {n : ℕ} → 0 < n → TablesFault t room n → ((m : ℕ) → TablesFault t room m → n ≤ m) → LowestOrNone (TablesFault t room) n
-  lowest p f past = some-number (λ e. omega arith) (record { applies = f; lower = λ m h g. not-lt (past m g) h })
+  lowest : {n : ℕ} → TablesFault t room n → ((m : ℕ) → TablesFault t room m → n ≤ m) → FirstOrNone (TablesFault t room) n
+  lowest f past = lowest-number tables-numbered (record { applies = f; lower = λ m h g. not-lt (past m g) h })
 
-  pub at-11 : OutOfRange (t .sizes) → LowestOrNone (TablesFault t room) 11
-  at-11 o = lowest (omega arith) (TablesFault.range o) (λ m f. fault-some f)
+  pub at-11 : OutOfRange (t .sizes) → FirstOrNone (TablesFault t room) 11
+  at-11 o = lowest (TablesFault.range o) (λ m f. fault-some f)
 
-  pub at-12 : InRange (t .sizes) → TooShort t room → LowestOrNone (TablesFault t room) 12
-  at-12 r o = lowest (omega arith) (TablesFault.short o) (λ m f. past-11 r f)
+  pub at-12 : InRange (t .sizes) → TooShort t room → FirstOrNone (TablesFault t room) 12
+  at-12 r o = lowest (TablesFault.short o) (λ m f. past-11 r f)
 
-  pub at-13 : InRange (t .sizes) → LongEnough t room → TablesFault t room 13 → LowestOrNone (TablesFault t room) 13
-  at-13 r l o = lowest (omega arith) o (λ m f. past-12 r l f)
+  pub at-13 : InRange (t .sizes) → LongEnough t room → TablesFault t room 13 → FirstOrNone (TablesFault t room) 13
+  at-13 r l o = lowest o (λ m f. past-12 r l f)
 
-  pub at-none : InRange (t .sizes) → LongEnough t room → Stays (t .sizes .old) (t .sizes .vectors) (t .old-next) → Stays (t .sizes .new) (t .sizes .vectors) (t .new-next) → LowestOrNone (TablesFault t room) 0
+  pub at-none : InRange (t .sizes) → LongEnough t room → Stays (t .sizes .old) (t .sizes .vectors) (t .old-next) → Stays (t .sizes .new) (t .sizes .vectors) (t .new-next) → FirstOrNone (TablesFault t room) 0
   at-none r l a b = no-number (λ m f. go f)
     where
       go : {m : ℕ} → TablesFault t room m → ⊥

@@ -8,13 +8,15 @@ use native.Mathlib.Omega.{arith}
 use lib.Dec.{T, eqb, eqb→eq, lit<, lit≤}
 use Rattle.numbers.specs.Meaning.Bits.{horner}
 use Rattle.memory.specs.Meaning.Lists.{listOf}
-use Rattle.memory.specs.Meaning.Refusals.{Lowest}
+use Rattle.memory.specs.Meaning.Refusals.{First}
+use Rattle.memory.proofs.Table.{first-of-lowest}
 use Rattle.memory.proofs.Computed.{every, every-at, and-left, and-right, passes, pass}
 use Rattle.netlist.specs.Meaning.Gates.{truth}
 use Rattle.netlist.specs.Meaning.Loops.{Path}
 use Rattle.netlist.specs.Meaning.Nets.{settled, nextState, outputs}
 use Rattle.image.specs.Meaning.Format.{bitAt, fieldAt, decoded}
 use Rattle.image.specs.Meaning.Faults.{ImageFault}
+use Rattle.image.proofs.Refusals.{image-numbered}
 use Rattle.sheet.specs.Meaning.Sheet.{imageP, imageQ, imageM, imageH, imageRing, imagePad, Drawn}
 use Rattle.sheet.proofs.Testing.{fieldTests, endTests, readsNone, clean-7, clean-9, flat-free}
 
@@ -67,15 +69,15 @@ unfolding fieldAt horner bitAt
 ring-end = tt
 
 -- cell 0 reads its own net
-pub ring-nine : Lowest (ImageFault imageRing) 9
+pub ring-nine : First (ImageFault imageRing) 9
 unfolding decoded fieldAt horner bitAt listOf
-ring-nine = record { applies = ImageFault.loop 0 (Path.one (record { from = lit< tt; to = lit< tt; by = inl refl })); lower = clean-9 imageRing ring-fields ring-end }
+ring-nine = first-of-lowest image-numbered (record { applies = ImageFault.loop 0 (Path.one (record { from = lit< tt; to = lit< tt; by = inl refl })); lower = clean-9 imageRing ring-fields ring-end })
 
 pad-fields : T (passes (fieldTests imagePad))
 unfolding fieldAt horner bitAt
 pad-fields = tt
 
 -- the last bit is set
-pub pad-seven : Lowest (ImageFault imagePad) 7
+pub pad-seven : First (ImageFault imagePad) 7
 unfolding fieldAt horner bitAt
-pad-seven = record { applies = ImageFault.pad 31 (lit≤ tt) (lit< tt) (λ e. omega (arith, e)); lower = clean-7 imagePad pad-fields }
+pad-seven = first-of-lowest image-numbered (record { applies = ImageFault.pad 31 (lit≤ tt) (lit< tt) (λ e. omega (arith, e)); lower = clean-7 imagePad pad-fields })

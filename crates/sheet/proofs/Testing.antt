@@ -19,9 +19,8 @@ use Rattle.netlist.specs.Meaning.Loops.{Reads, Path}
 use Rattle.image.specs.Meaning.Format.{bitAt, fieldAt, versionIn, inputsIn, latchesIn, outputsIn, countIn, netsIn, bitsIn, bytesIn, kindIn, firstIn, secondIn, tailIn, decoded}
 use Rattle.image.specs.Meaning.Faults.{ImageFault}
 use Rattle.image.specs.Working.Scanning.{WithinLimits}
-use Rattle.image.proofs.Refusals.{no-3, no-4, no-6, no-7, no-8, clean-4}
+use Rattle.image.proofs.Refusals.{small, no-3, no-4, no-6, no-7, no-8, clean-4}
 use Rattle.image.proofs.Spelling.{zero-bits}
-use Rattle.image.proofs.Order.{small}
 
 -- 1 to 6 find nothing: length and version; sizes and bytes; nets; unread nets
 abbrev pub fieldTests : List ℕ → List Bool

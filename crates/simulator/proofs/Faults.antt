@@ -4,27 +4,33 @@ use mathlib.Core.Path.{_≡_}
 use mathlib.Core.Logic.{_⊎_, inl, inr}
 use native.Mathlib.Omega.{arith}
 use Rattle.numbers.proofs.Order.{le-of-not-lt}
-use Rattle.memory.specs.Meaning.Refusals.{Free, Lowest, LowestOrNone, lowerNumber}
-use Rattle.memory.proofs.Refusals.{some-number, no-number, lowest-early, lowest-late, lowest-either}
+use Rattle.memory.specs.Meaning.Refusals.{Free, First, FirstOrNone, earlierNumber}
+use Rattle.memory.specs.Working.Lowest.{Numbered}
+use Rattle.memory.proofs.Refusals.{some-number, lowest-number, no-number, first-early, first-late, first-either}
 use Rattle.netlist.specs.declared.Design.{Design}
 use Rattle.netlist.specs.Meaning.Nets.{statesOf, vectorsOf}
 use Rattle.netlist.specs.Meaning.Faults.{DesignFault, Accepted}
-use Rattle.netlist.proofs.Numbers.{fault-bounds}
+use Rattle.netlist.proofs.Numbers.{fault-bounds, design-numbered}
 use Rattle.simulator.specs.Meaning.Clock.{ClockFault}
 use Rattle.simulator.specs.Meaning.Tables.{sizeOf, TableFault, InterfaceFault, BothFault}
 
 -- a clock: 3, 5 and 9 of the design, then 14
 module _ (d : Design) (s v : ℕ) where
+  pub clock-numbered : Numbered (ClockFault d s v)
+  clock-numbered n (ClockFault.design f) = design-numbered n f
+  clock-numbered n (ClockFault.state l) = (omega arith, omega arith)
+  clock-numbered n (ClockFault.vector l) = (omega arith, omega arith)
+
   before-14 : (n : ℕ) → ClockFault d s v n → n < 14 → DesignFault d n
   before-14 n (ClockFault.design f) h = f
   before-14 n (ClockFault.state l) h = absurd (omega arith)
   before-14 n (ClockFault.vector l) h = absurd (omega arith)
 
-  pub clock-design : {n : ℕ} → Lowest (DesignFault d) n → Lowest (ClockFault d s v) n
-  clock-design l = lowest-early (DesignFault d) (ClockFault d s v) 14 (λ n f. ClockFault.design f) before-14 (omega (arith, fault-bounds (l .applies) .1)) l
+  pub clock-design : {n : ℕ} → First (DesignFault d) n → First (ClockFault d s v) n
+  clock-design l = first-early (DesignFault d) (ClockFault d s v) 14 clock-numbered (λ n f. ClockFault.design f) before-14 (omega (arith, fault-bounds (l .applies) .1)) l
 
-  pub clock-14 : Accepted d → ClockFault d s v 14 → Lowest (ClockFault d s v) 14
-  clock-14 = lowest-late (DesignFault d) (ClockFault d s v) 14 (λ n f. ClockFault.design f) before-14
+  pub clock-14 : Accepted d → ClockFault d s v 14 → First (ClockFault d s v) 14
+  clock-14 = first-late (DesignFault d) (ClockFault d s v) 14 clock-numbered (λ n f. ClockFault.design f) before-14
 
   pub clock-free : Accepted d → s < statesOf d → v < vectorsOf d → Free (ClockFault d s v)
   clock-free none p q n (ClockFault.design f) = none n f
@@ -33,18 +39,23 @@ module _ (d : Design) (s v : ℕ) where
 
 -- a table: 3, 5 and 9 of the design, then 12
 module _ (d : Design) (n m : ℕ) where
+  pub table-numbered : Numbered (TableFault d n m)
+  table-numbered k (TableFault.design f) = design-numbered k f
+  table-numbered k (TableFault.next l) = (omega arith, omega arith)
+  table-numbered k (TableFault.out l) = (omega arith, omega arith)
+
   before-12 : (k : ℕ) → TableFault d n m k → k < 12 → DesignFault d k
   before-12 k (TableFault.design f) h = f
   before-12 k (TableFault.next l) h = absurd (omega arith)
   before-12 k (TableFault.out l) h = absurd (omega arith)
 
-  pub table-design : {k : ℕ} → (k ≡ 0 → ⊥) → Lowest (DesignFault d) k → LowestOrNone (TableFault d n m) k
-  table-design z l = some-number z (lowest-early (DesignFault d) (TableFault d n m) 12 (λ k f. TableFault.design f) before-12 (omega (arith, fault-bounds (l .applies) .1)) l)
+  pub table-design : {k : ℕ} → First (DesignFault d) k → FirstOrNone (TableFault d n m) k
+  table-design l = some-number (first-early (DesignFault d) (TableFault d n m) 12 table-numbered (λ k f. TableFault.design f) before-12 (omega (arith, fault-bounds (l .applies) .1)) l)
 
-  pub table-12 : Accepted d → TableFault d n m 12 → LowestOrNone (TableFault d n m) 12
-  table-12 none f = some-number (λ e. omega arith) (lowest-late (DesignFault d) (TableFault d n m) 12 (λ k f. TableFault.design f) before-12 none f)
+  pub table-12 : Accepted d → TableFault d n m 12 → FirstOrNone (TableFault d n m) 12
+  table-12 none f = some-number (first-late (DesignFault d) (TableFault d n m) 12 table-numbered (λ k f. TableFault.design f) before-12 none f)
 
-  pub table-free : Accepted d → sizeOf d ≤ n → sizeOf d ≤ m → LowestOrNone (TableFault d n m) 0
+  pub table-free : Accepted d → sizeOf d ≤ n → sizeOf d ≤ m → FirstOrNone (TableFault d n m) 0
   table-free none p q = no-number free
     where
       free : Free (TableFault d n m)
@@ -69,10 +80,13 @@ module _ (a b : Design) where
   is-10 (InterfaceFault.other-inputs f) = omega arith
   is-10 (InterfaceFault.other-outputs f) = omega arith
 
-  pub interface-10 : InterfaceFault a b 10 → LowestOrNone (InterfaceFault a b) 10
-  interface-10 f = some-number (λ e. omega arith) (record { applies = f; lower = λ m h g. omega (arith, is-10 g) })
+  pub interface-numbered : Numbered (InterfaceFault a b)
+  interface-numbered k f = (omega (arith, is-10 f), omega (arith, is-10 f))
 
-  pub interface-free : a .inputs ≡ b .inputs → a .outputs ≡ b .outputs → LowestOrNone (InterfaceFault a b) 0
+  pub interface-10 : InterfaceFault a b 10 → FirstOrNone (InterfaceFault a b) 10
+  interface-10 f = lowest-number interface-numbered (record { applies = f; lower = λ m h g. omega (arith, is-10 g) })
+
+  pub interface-free : a .inputs ≡ b .inputs → a .outputs ≡ b .outputs → FirstOrNone (InterfaceFault a b) 0
   interface-free i o = no-number free
     where
       free : Free (InterfaceFault a b)
@@ -99,11 +113,16 @@ module _ (a b : Design) (n0 m0 n1 m1 : ℕ) where
   of-both k (BothFault.new f) = inl (EitherFault.new f)
   of-both k (BothFault.interface f) = inr f
 
-  pub both-lowest : {x y z w r : ℕ} → LowestOrNone (TableFault a n0 m0) x → LowestOrNone (TableFault b n1 m1) y → LowestOrNone (InterfaceFault a b) z
-      → w ≡ lowerNumber x y → r ≡ lowerNumber w z → LowestOrNone (BothFault a b n0 m0 n1 m1) r
+  pub both-numbered : Numbered (BothFault a b n0 m0 n1 m1)
+  both-numbered k (BothFault.old f) = table-numbered a n0 m0 k f
+  both-numbered k (BothFault.new f) = table-numbered b n1 m1 k f
+  both-numbered k (BothFault.interface f) = interface-numbered a b k f
+
+  pub both-lowest : {x y z w r : ℕ} → FirstOrNone (TableFault a n0 m0) x → FirstOrNone (TableFault b n1 m1) y → FirstOrNone (InterfaceFault a b) z
+      → w ≡ earlierNumber x y → r ≡ earlierNumber w z → FirstOrNone (BothFault a b n0 m0 n1 m1) r
   both-lowest {x} {y} {z} {w} {r} p q t e f =
-      let either = lowest-either (TableFault a n0 m0) (TableFault b n1 m1) EitherFault (λ k f. EitherFault.old f) (λ k f. EitherFault.new f) cases x y p q in
-      rw f (lowest-either EitherFault (InterfaceFault a b) (BothFault a b n0 m0 n1 m1) both-of (λ k f. BothFault.interface f) of-both w z (rw e either) t)
+      let either = first-either (TableFault a n0 m0) (TableFault b n1 m1) EitherFault (λ k f. EitherFault.old f) (λ k f. EitherFault.new f) cases x y p q in
+      rw f (first-either EitherFault (InterfaceFault a b) (BothFault a b n0 m0 n1 m1) both-of (λ k f. BothFault.interface f) of-both w z (rw e either) t)
 
   module _ (none : Free (BothFault a b n0 m0 n1 m1)) where
     pub old-free : Free (TableFault a n0 m0)

@@ -2,7 +2,7 @@
 ghost use mathlib.Core.Path.{_≡_};
 ghost use Prim.Native.Nat.{_≤_};
 ghost use lib.ListN.{length};
-ghost use Rattle.memory.specs.Meaning.Refusals.{LowestOrNone};
+ghost use Rattle.memory.specs.Meaning.Refusals.{FirstOrNone};
 ghost use Rattle.netlist.specs.Meaning.Faults.{DesignFault};
 ghost use Rattle.netlist.specs.Working.Placing.{Sound};
 ghost use Rattle.simulator.specs.Meaning.Tables.{sizeOf, TableFault, InterfaceFault, BothFault};
@@ -18,8 +18,8 @@ pub struct Room {
 
 // The lowest number that applies to tabulating a design; `number` is the lowest that applies to the design itself.
 pub(crate) fn table_number(d: Design, number: u8, room: Room) -> u8
-    requires { ⌜ LowestOrNone (DesignFault d) number ⌝ }
-    ensures { λ r. ⌜ LowestOrNone (TableFault d (room .next) (room .out)) r ⌝ }
+    requires { ⌜ FirstOrNone (DesignFault d) number ⌝ }
+    ensures { λ r. ⌜ FirstOrNone (TableFault d (room .next) (room .out)) r ⌝ }
 {
     if number != 0 {
         return number;
@@ -43,18 +43,18 @@ pub(crate) fn both_number(
     old_room: Room,
     new_room: Room,
 ) -> u8
-    requires { ⌜ (LowestOrNone (DesignFault old) «old_number») × (LowestOrNone (DesignFault new) «new_number») ⌝ }
-    ensures { λ r. ⌜ LowestOrNone (BothFault old new («old_room» .next) («old_room» .out) («new_room» .next) («new_room» .out)) r ⌝ }
+    requires { ⌜ (FirstOrNone (DesignFault old) «old_number») × (FirstOrNone (DesignFault new) «new_number») ⌝ }
+    ensures { λ r. ⌜ FirstOrNone (BothFault old new («old_room» .next) («old_room» .out) («new_room» .next) («new_room» .out)) r ⌝ }
 {
     let old_table = table_number(old, old_number, old_room);
     let new_table = table_number(new, new_number, new_room);
-    let table = memory::lower_number(old_table, new_table);
-    memory::lower_number(table, interface_number(old, new))
+    let table = memory::earlier_number(old_table, new_table);
+    memory::earlier_number(table, interface_number(old, new))
 }
 
 // 10 where the designs cannot be compared, or 0.
 fn interface_number(old: Design, new: Design) -> u8
-    ensures { λ r. ⌜ LowestOrNone (InterfaceFault old new) r ⌝ }
+    ensures { λ r. ⌜ FirstOrNone (InterfaceFault old new) r ⌝ }
 {
     if old.inputs != new.inputs {
         return 10;

@@ -8,8 +8,9 @@ use lib.Arith.{digits-lt}
 use lib.ListN.{length, take}
 use lib.Seq.{length-take-le}
 use Rattle.numbers.proofs.Order.{tri, zero-or}
-use Rattle.memory.specs.Meaning.Refusals.{Free, Lowest}
+use Rattle.memory.specs.Meaning.Refusals.{Free, First}
 use Rattle.memory.specs.Meaning.Slices.{Zero}
+use Rattle.memory.proofs.Table.{first-of-lowest}
 use Rattle.machine.specs.declared.Found.{Found}
 use Rattle.machine.specs.declared.Pair.{Pair}
 use Rattle.machine.specs.declared.Sizes.{Sizes}
@@ -58,9 +59,12 @@ module _ (t : Tables) where
       all-align h = record { all = λ p i. alignable-of-some p i (s .rows p i (omega (arith, i .in-old))) }
 
   -- 16 applies where the list is longer than the slice, and nothing where it fits
-  too-long : {n : ℕ} (l : List ℕ) → VerdictList m0 m1 z l → n < length l → Lowest (ShortList m0 m1 z n) 16
-  too-long l w h = record { applies = short l w h; lower = λ k b s. above s b }
+  too-long : {n : ℕ} (l : List ℕ) → VerdictList m0 m1 z l → n < length l → First (ShortList m0 m1 z n) 16
+  too-long l w h = first-of-lowest (λ k s. numbered s) (record { applies = short l w h; lower = λ k b s. above s b })
     where
+      numbered : {n k : ℕ} → ShortList m0 m1 z n k → (0 < k) × (k ≤ 16)
+      numbered (short l w h) = (omega arith, omega arith)
+
       above : {n k : ℕ} → ShortList m0 m1 z n k → k < 16 → ⊥
       above (short l w h) b = omega arith
 

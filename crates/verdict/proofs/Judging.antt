@@ -5,14 +5,15 @@ use mathlib.Core.List.{List}
 use Prim.Native.Nat.{ℕ, _≤_, min}
 use native.Mathlib.Omega.{arith}
 use lib.ListN.{length}
-use Rattle.memory.specs.Meaning.Refusals.{Free, LowestOrNone}
+use Rattle.memory.specs.Meaning.Refusals.{Free, FirstOrNone}
 use Rattle.memory.specs.Meaning.Slices.{Zero, Cleared}
-use Rattle.memory.proofs.Refusals.{lowest-first, keeps-second}
+use Rattle.memory.specs.Working.Lowest.{Numbered}
+use Rattle.memory.proofs.Refusals.{first-lower, keeps-second}
 use Rattle.machine.specs.Meaning.Tables.{Tables, pairs, oldMachine, newMachine}
 use Rattle.machine.specs.Meaning.Faults.{TablesFault}
 use Rattle.machine.specs.Meaning.Lent.{Lent, Left, leftOf}
 use Rattle.seek.specs.Working.Steps.{Good, Both}
-use Rattle.seek.proofs.Refusals.{fault-most, good, room-enough}
+use Rattle.seek.proofs.Refusals.{fault-most, tables-numbered, good, room-enough}
 use Rattle.verdict.specs.declared.Verdict.{Verdict}
 use Rattle.verdict.specs.declared.Judged.{Judged}
 use Rattle.verdict.specs.Meaning.Decision.{verdictReply, Decided, ShortList, short}
@@ -39,13 +40,17 @@ module _ (t : Tables) (s : Lent) where
   either n (call f) = inl f
   either n (list f) = inr f
 
+  pub judge-numbered : Numbered (JudgeFault t s)
+  judge-numbered n (call f) = tables-numbered n f
+  judge-numbered n (list (short l w h)) = (omega arith, omega arith)
+
   above : {n m : ℕ} → Room n → Short m → n ≤ m
   above f (short l w h) = omega (arith, fault-most f)
 
-  pub judged-refused : {depth reach written : List ℕ} {n : ℕ} → (n ≡ 0 → ⊥) → LowestOrNone (TablesFault t (min (s .depth) (s .reach))) n → Cleared (s .depth) depth → Cleared (s .reach) reach → Cleared (s .written) written → Judges t s (leftOf depth reach written) (Verdict.Refused n)
+  pub judged-refused : {depth reach written : List ℕ} {n : ℕ} → (n ≡ 0 → ⊥) → FirstOrNone (TablesFault t (min (s .depth) (s .reach))) n → Cleared (s .depth) depth → Cleared (s .reach) reach → Cleared (s .written) written → Judges t s (leftOf depth reach written) (Verdict.Refused n)
   judged-refused z l a b c =
       let f = l .some z in
-      record { keeps = (lowest-first Room Short (JudgeFault t s) (λ m x. call x) (λ m x. list x) either f (λ m x. above (f .applies) x), c .zero); tidy = record { depth = a; reach = b; written = c .size } }
+      record { keeps = (first-lower Room Short (JudgeFault t s) (λ m x. call x) (λ m x. list x) either judge-numbered f (λ m x. above (f .applies) x), c .zero); tidy = record { depth = a; reach = b; written = c .size } }
 
   module _ (none : Free (TablesFault t (min (s .depth) (s .reach)))) where
     pub judged : {depth reach written : List ℕ} {r : Verdict} → {d n w : ℕ} → Settled t w written r → Cleared d depth → Cleared n reach → w ≡ s .written → d ≡ s .depth → n ≡ s .reach → length written ≡ w → Judges t s (leftOf depth reach written) r

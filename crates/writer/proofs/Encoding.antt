@@ -6,9 +6,10 @@ use native.Mathlib.Omega.{arith}
 use native.Mathlib.Decide.{decLt}
 use native.Mathlib.Nat.{zero-add}
 use borrow.Author.Tests.{lt-ltb, le-ltb}
+use lib.Dec.{lit<}
 use lib.ListN.{length, getD, take}
 use lib.Seq.{length-take-le, getD-take}
-use Rattle.numbers.proofs.Digits.{horner-digit}
+use Rattle.numbers.proofs.Digits.{horner-digit, horner-lt}
 use Rattle.memory.specs.Working.Filling.{Filled}
 use Rattle.netlist.specs.declared.Design.{Design}
 use Rattle.netlist.specs.Meaning.Limits.{kindBits, sizeBits, countBits, inputsAt, latchesAt, outputsAt, countAt, netBits, headerBits, cellBits}
@@ -126,4 +127,8 @@ module _ (d : Design) (w : Sound d) (h : ℕ) (c t : List ℕ) (p : Packs d h c 
       ∙ ap bit e ∙ word-same d h c t p i)
 
   pub holds-image : HoldsImage d l (bytesOf d)
-  holds-image = record { bytes = refl; image = encodes d w (take (bytesOf d) l) front bits-in; beyond = f .rest }
+  holds-image = record { bytes = refl; image = encodes d w (take (bytesOf d) l) front bits-in; beyond = f .rest; each = λ k. each k (decLt k (bytesOf d)) }
+    where
+      each : (k : ℕ) → Dec (k < bytesOf d) → getD l k 0 < 256
+      each k (yes q) = rw (f .front k q) (horner-lt (λ j. wordBit h (λ x. getD c x 0) (λ x. getD t x 0) (d .count) (d .latches + d .outputs) (8 * k + j)) 8 (λ j. word-lt h (λ x. getD c x 0) (λ x. getD t x 0) (d .count) (d .latches + d .outputs) (8 * k + j)))
+      each k (no q) = rw (f .rest k (omega arith)) (lit< tt)

@@ -2,11 +2,12 @@
 use Prim.Native.Nat.{ℕ, _<_, _≤_}
 use native.Mathlib.Omega.{arith}
 use Rattle.numbers.proofs.Order.{not-lt}
-use Rattle.memory.specs.Meaning.Refusals.{Free, Lowest}
-use Rattle.memory.proofs.Refusals.{lowest-early, lowest-late}
+use Rattle.memory.specs.Meaning.Refusals.{Free, First}
+use Rattle.memory.specs.Working.Lowest.{Numbered}
+use Rattle.memory.proofs.Refusals.{first-early, first-late}
 use Rattle.netlist.specs.declared.Design.{Design}
 use Rattle.netlist.specs.Meaning.Faults.{DesignFault, Accepted}
-use Rattle.netlist.proofs.Numbers.{fault-bounds}
+use Rattle.netlist.proofs.Numbers.{fault-bounds, design-numbered}
 use Rattle.image.specs.Meaning.Format.{bytesOf}
 use Rattle.writer.specs.Meaning.Writing.{WriteFault}
 
@@ -16,15 +17,15 @@ module _ (d : Design) (n : ℕ) where
   early k (WriteFault.design f) h = f
   early k (WriteFault.short l) h = absurd (omega arith)
 
-  pub some-fault : {k : ℕ} → WriteFault d n k → 3 ≤ k
-  some-fault (WriteFault.design f) = fault-bounds f .0
-  some-fault (WriteFault.short l) = omega arith
+  pub write-numbered : Numbered (WriteFault d n)
+  write-numbered k (WriteFault.design f) = design-numbered k f
+  write-numbered k (WriteFault.short l) = (omega arith, omega arith)
 
-  pub own-number : {k : ℕ} → Lowest (DesignFault d) k → Lowest (WriteFault d n) k
-  own-number l = lowest-early (DesignFault d) (WriteFault d n) 12 (λ k f. WriteFault.design f) early (omega (arith, fault-bounds (l .applies) .1)) l
+  pub own-number : {k : ℕ} → First (DesignFault d) k → First (WriteFault d n) k
+  own-number l = first-early (DesignFault d) (WriteFault d n) 12 write-numbered (λ k f. WriteFault.design f) early (omega (arith, fault-bounds (l .applies) .1)) l
 
-  pub twelve : Accepted d → n < bytesOf d → Lowest (WriteFault d n) 12
-  twelve a h = lowest-late (DesignFault d) (WriteFault d n) 12 (λ k f. WriteFault.design f) early a (WriteFault.short h)
+  pub twelve : Accepted d → n < bytesOf d → First (WriteFault d n) 12
+  twelve a h = first-late (DesignFault d) (WriteFault d n) 12 write-numbered (λ k f. WriteFault.design f) early a (WriteFault.short h)
 
   pub none : Accepted d → bytesOf d ≤ n → Free (WriteFault d n)
   none a h k (WriteFault.design f) = a k f

@@ -22,14 +22,11 @@ use Rattle.image.specs.Meaning.Reading.{ReadsImage, readReply, emptyDesign}
 use Rattle.image.proofs.Accepted.{image-encodes, image-accepted, spelled, clean}
 use Rattle.writer.specs.declared.Written.{Written}
 use Rattle.writer.specs.declared.Written.the-variants.{Bytes, Refused}
-use Rattle.writer.specs.Meaning.Writing.{WriteFault, writeReply, HoldsImage, Writes}
+use Rattle.writer.specs.Meaning.Writing.{WriteFault, writeReply, AreBytes, HoldsImage, Writes}
 use Rattle.writer.proofs.Images.{one-image}
 use Rattle.writer.proofs.Refusals.{none}
 
--- entries of a list of bytes, and of its front
-abbrev pub AreBytes : List ℕ → Type 0
-AreBytes l = (k : ℕ) → getD l k 0 < 256
-
+-- the front of a list of bytes
 pub front-bytes : (n : ℕ) (l : List ℕ) → AreBytes l → AreBytes (take n l)
 front-bytes n l h k = go (decLt k n)
   where
@@ -46,8 +43,8 @@ read-encodes b d r = rw (r .keeps .1) (image-encodes b (r .keeps .0))
 
 -- "Reading an accepted image and writing it again yields those bytes"
 pub read-write : (b : List ℕ) (d : Design) → ReadsImage b (record { answer = Answer·variants.Accepted; design = d }) → AreBytes b
-    → (n : ℕ) (w : Written) (l : List ℕ) → Writes d n w l → AreBytes l → length b ≤ n → (w ≡ Bytes (length b)) × (take (length b) l ≡ b)
-read-write b d r p n w l h q room = go w (h .keeps)
+    → (n : ℕ) (w : Written) (l : List ℕ) → Writes d n w l → length b ≤ n → (w ≡ Bytes (length b)) × (take (length b) l ≡ b)
+read-write b d r p n w l h room = go w (h .keeps)
   where
     e : Encodes d b
     e = read-encodes b d r
@@ -61,7 +58,7 @@ read-write b d r p n w l h q room = go w (h .keeps)
     go : (w : Written) → Keeps (WriteFault d n) (HoldsImage d l) (Zero l) (writeReply w) → (w ≡ Bytes (length b)) × (take (length b) l ≡ b)
     go (Bytes k) (f, i) =
         let s : k ≡ length b = i .bytes ∙ sym (e .size) in
-        (ap Bytes s, rw (← s) (one-image d (take k l) b (i .image) e (front-bytes k l q) p))
+        (ap Bytes s, rw (← s) (one-image d (take k l) b (i .image) e (front-bytes k l (i .each)) p))
     go (Refused k) (m, z) = absurd (free k (m .applies))
 
 -- "writing an accepted design and reading it yields that design"

@@ -15,7 +15,7 @@ use mathlib.Core.Path.{_≡_}
 use mathlib.Core.List.{List}
 use lib.ListN.{length, take, drop}
 use Rattle.io.specs.Counts as io
-use Rattle.memory.specs.Meaning.Refusals.{Free, Lowest}
+use Rattle.memory.specs.Meaning.Refusals.{Free, First}
 use Rattle.memory.specs.Meaning.Slices.{Zero}
 use Rattle.netlist.specs.declared.Design.{Design}
 use Rattle.image.specs.Meaning.Format.{bytesIn, decoded}
@@ -47,8 +47,8 @@ newDesign b = decoded (newBytes b)
 
 -- "8 applies to the new one": the old image ends where its header says, unless the header or the input's end forbids it
 pub data OldRefused (b : List ℕ) (k : ℕ) : Type 0 where
-  header : Lowest (HeaderFault b) k → OldRefused b k
-  image : Free (HeaderFault b) → Lowest (ImageFault (oldBytes b)) k → OldRefused b k
+  header : First (HeaderFault b) k → OldRefused b k
+  image : Free (HeaderFault b) → First (ImageFault (oldBytes b)) k → OldRefused b k
 
 pub record OldAccepted (b : List ℕ) : Type 0 where
   pub header : Free (HeaderFault b)
@@ -66,7 +66,7 @@ pub record FactsOf (a b : Design) (f : Facts) : Type 0 where
 
 -- "`REFUSED BOTH n`"; else "the verdict with its list's length; then one vector a line", or Apart with its pair and trace
 pub data AnswersDesigns (a b : Design) (n : TablesLent) (s : Lent) (list′ t : List ℕ) : Type 0 where
-  refused : (k : ℕ) → Lowest (CompareFault a b n s) k → Zero list′ → t ≡ refusalText Both k → AnswersDesigns a b n s list′ t
+  refused : (k : ℕ) → First (CompareFault a b n s) k → Zero list′ → t ≡ refusalText Both k → AnswersDesigns a b n s list′ t
   found-same : Free (CompareFault a b n s) → (f : Facts) → FactsOf a b f
       → (m : ℕ) → Decided (machineOf a) (machineOf b) (sizesOf a b) list′ (same m) → t ≡ sameText f (take m list′) → AnswersDesigns a b n s list′ t
   found-apart : Free (CompareFault a b n s) → (f : Facts) → FactsOf a b f
@@ -75,7 +75,7 @@ pub data AnswersDesigns (a b : Design) (n : TablesLent) (s : Lent) (list′ t : 
 -- "A refusal prints only `REFUSED OLD n`, `REFUSED NEW n` or `REFUSED BOTH n` .., looked for in that order"
 pub data Answers (b : List ℕ) (n : TablesLent) (s : Lent) (list′ t : List ℕ) : Type 0 where
   old-refused : (k : ℕ) → OldRefused b k → Zero list′ → t ≡ refusalText Old k → Answers b n s list′ t
-  new-refused : (k : ℕ) → OldAccepted b → Lowest (ImageFault (newBytes b)) k → Zero list′ → t ≡ refusalText New k → Answers b n s list′ t
+  new-refused : (k : ℕ) → OldAccepted b → First (ImageFault (newBytes b)) k → Zero list′ → t ≡ refusalText New k → Answers b n s list′ t
   designs : OldAccepted b → Free (ImageFault (newBytes b)) → AnswersDesigns (oldDesign b) (newDesign b) n s list′ t → Answers b n s list′ t
 
 -- the list slice keeps its length; beyond the text, text′ is free

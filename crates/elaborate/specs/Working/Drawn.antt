@@ -2,7 +2,7 @@
 --   Draws d r   r answers which design the drawing d draws
 use mathlib.Core.Path.{_≡_}
 use mathlib.Core.List.{[], _∷_}
-use Rattle.memory.specs.Meaning.Orders.{KeepsFirst}
+use Rattle.memory.specs.Meaning.Refusals.{KeepsFirst}
 use Rattle.image.specs.declared.Reading.{Reading}
 use Rattle.image.specs.Meaning.Reading.{readReply, emptyDesign}
 use Rattle.drawing.specs.declared.Drawing.{Drawing}

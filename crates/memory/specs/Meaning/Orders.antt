@@ -1,23 +1,35 @@
--- Refusals in an order that is a list, and not that of their numbers.
---   FirstIn P order k            k is the first entry of the list `order` that applies
---   FirstNumber P order num n    n is the number of that entry
---   KeepsFirst P order num A C r the reply r is right: an answer a, with A a, where nothing applies; else the number of the first entry that does, with C
--- P k says that the entry k applies to a call, and num k is its number. Entries need not be numbers, and two may have the same one.
-use Prim.Native.Nat.{ℕ}
+-- The order of refusals: a number is returned if it applies and none that stands before it in the order does.
+--   NoneBefore P order k         k stands in the list `order`, and nothing that stands before it there applies
+--   FirstIn P order k            k applies besides: it is the first entry that does
+--   FirstNumber P order num n    n is the number of the first entry that applies
+--   tableOrder                   the order of the numbers of document 01
+--   earlier order a b            of two numbers the one that stands first in the order
+-- P k says that the entry k applies to a call. Mostly the entries are the numbers themselves; where a number stands twice in an
+-- order, entries tell its places apart, and num k is the number of the entry k.
+use Prim.Native.Nat.{ℕ, min}
 use mathlib.Core.Path.{_≡_}
-use mathlib.Core.List.{List, _∷_}
-use Rattle.memory.specs.Meaning.Refusals.{Reply, answer, refusal}
+use mathlib.Core.Bool.{cond}
+use mathlib.Core.List.{List, [], _∷_}
+use lib.Dec.{eqb}
 
--- k applies, and nothing that stands before it in the list does
-pub data FirstIn {K : Type 0} (P : K → Type 0) : List K → K → Type 0 where
-  here : {k : K} {ks : List K} → P k → FirstIn P (k ∷ ks) k
-  later : {j k : K} {ks : List K} → (P j → ⊥) → FirstIn P ks k → FirstIn P (j ∷ ks) k
+pub data NoneBefore {K : Type 0} (P : K → Type 0) : List K → K → Type 0 where
+  here : {k : K} {ks : List K} → NoneBefore P (k ∷ ks) k
+  later : {j k : K} {ks : List K} → (P j → ⊥) → NoneBefore P ks k → NoneBefore P (j ∷ ks) k
+
+pub record FirstIn {K : Type 0} (P : K → Type 0) (order : List K) (k : K) : Type 0 where
+  pub applies : P k
+  pub first : NoneBefore P order k
 
 pub record FirstNumber {K : Type 0} (P : K → Type 0) (order : List K) (number : K → ℕ) (n : ℕ) : Type 0 where
   pub entry : K
   pub first : FirstIn P order entry
   pub numbered : n ≡ number entry
 
-abbrev pub KeepsFirst : {K A : Type 0} → (K → Type 0) → List K → (K → ℕ) → (A → Type 0) → Type 0 → Reply A → Type 0
-KeepsFirst {K} P order number Answers Cleared (answer a) = ((k : K) → P k → ⊥) × Answers a
-KeepsFirst P order number Answers Cleared (refusal n) = FirstNumber P order number n × Cleared
+-- "The lowest applicable number is returned": in document 01's table what is lower comes first
+abbrev pub tableOrder : List ℕ
+tableOrder = 1 ∷ 2 ∷ 3 ∷ 4 ∷ 5 ∷ 6 ∷ 7 ∷ 8 ∷ 9 ∷ 10 ∷ 11 ∷ 12 ∷ 13 ∷ 14 ∷ 15 ∷ 16 ∷ []
+
+-- where neither stands in it, the lower
+unfoldable pub earlier : List ℕ → ℕ → ℕ → ℕ
+earlier [] a b = min a b
+earlier (k ∷ ks) a b = cond (eqb k a) a (cond (eqb k b) b (earlier ks a b))

@@ -1,31 +1,33 @@
--- Who is turned away: what a call that answers or refuses promises, where the lowest number comes first. Orders has the others.
+-- Who is turned away: what a call that answers or refuses promises.
 --   Free P             no number applies
---   Lowest P n         n applies, and no lower number does
---   LowestOrNone P n   n is the lowest number that applies, or 0 where none does
---   lowerNumber a b    the lower of two such numbers, of which 0 is none
+--   First P n          n is the first number of document 01's order that applies
+--   FirstOrNone P n    the same, or n is 0 where none applies
+--   earlierNumber a b  of two such numbers, of which 0 is none, the one that comes first
 --   Reply A            an answer with its values, or a refusal with its number
---   Keeps P A C r      the reply r is right: an answer a, with A a, where no number applies; else the lowest that does, with C
+--   Right F N A C r    the reply r is right: an answer a, with A a, where F; else a number n with N n, and C
+--   Keeps P A C r      right for a call: an answer where no number applies, else the first that does
+--   KeepsFirst P order num A C r   right in an order of its own: an answer where no entry applies, else the number of the first that does
 -- P n says that the number n of document 01's table applies to a call. No number is 0.
-use Prim.Native.Nat.{ℕ, zero, suc, _<_, min}
+use Prim.Native.Nat.{ℕ, zero, suc}
 use mathlib.Core.Path.{_≡_}
+use mathlib.Core.List.{List}
+use Rattle.memory.specs.Meaning.Orders.{FirstIn, FirstNumber, tableOrder, earlier}
 
-abbrev pub Free : (ℕ → Type 0) → Type 0
-Free P = (n : ℕ) → P n → ⊥
+abbrev pub Free : {K : Type 0} → (K → Type 0) → Type 0
+Free {K} P = (k : K) → P k → ⊥
 
--- "The lowest applicable number is returned"
-pub record Lowest (P : ℕ → Type 0) (n : ℕ) : Type 0 where
-  pub applies : P n
-  pub lower : (m : ℕ) → m < n → P m → ⊥
+abbrev pub First : (ℕ → Type 0) → ℕ → Type 0
+First P n = FirstIn P tableOrder n
 
--- the same for a call that answers with the number alone, 0 where none applies
-pub record LowestOrNone (P : ℕ → Type 0) (n : ℕ) : Type 0 where
-  pub some : (n ≡ 0 → ⊥) → Lowest P n
+-- for a call that answers with the number alone, 0 where none applies
+pub record FirstOrNone (P : ℕ → Type 0) (n : ℕ) : Type 0 where
+  pub some : (n ≡ 0 → ⊥) → First P n
   pub none : n ≡ 0 → Free P
 
-abbrev pub lowerNumber : ℕ → ℕ → ℕ
-lowerNumber zero b = b
-lowerNumber (suc a) zero = suc a
-lowerNumber (suc a) (suc b) = min (suc a) (suc b)
+unfoldable pub earlierNumber : ℕ → ℕ → ℕ
+earlierNumber zero b = b
+earlierNumber (suc a) zero = suc a
+earlierNumber (suc a) (suc b) = earlier tableOrder (suc a) (suc b)
 
 -- "If the answer is an enum, a definition gives this paper's number and values for each of its cases"
 pub data Reply (A : Type 0) : Type 0 where
@@ -33,6 +35,12 @@ pub data Reply (A : Type 0) : Type 0 where
   refusal : ℕ → Reply A
 
 -- "The lowest applicable number is returned, with nothing else", and nothing else is turned away
+abbrev pub Right : {A : Type 0} → Type 0 → (ℕ → Type 0) → (A → Type 0) → Type 0 → Reply A → Type 0
+Right None Returned Answers Cleared (answer a) = None × Answers a
+Right None Returned Answers Cleared (refusal n) = Returned n × Cleared
+
 abbrev pub Keeps : {A : Type 0} → (ℕ → Type 0) → (A → Type 0) → Type 0 → Reply A → Type 0
-Keeps P Answers Cleared (answer a) = Free P × Answers a
-Keeps P Answers Cleared (refusal n) = Lowest P n × Cleared
+Keeps P Answers Cleared r = Right (Free P) (First P) Answers Cleared r
+
+abbrev pub KeepsFirst : {K A : Type 0} → (K → Type 0) → List K → (K → ℕ) → (A → Type 0) → Type 0 → Reply A → Type 0
+KeepsFirst P order number Answers Cleared r = Right (Free P) (FirstNumber P order number) Answers Cleared r

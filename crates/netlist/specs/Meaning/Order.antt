@@ -8,7 +8,7 @@ use mathlib.Core.Path.{_≡_}
 use mathlib.Core.Logic.{_⊎_}
 use mathlib.Core.List.{List}
 use lib.ListN.{length, getD}
-use Rattle.memory.specs.Meaning.Refusals.{LowestOrNone}
+use Rattle.memory.specs.Meaning.Refusals.{FirstOrNone}
 use Rattle.memory.specs.Meaning.Slices.{Zero, ZeroFrom}
 use Rattle.netlist.specs.declared.Design.{Design}
 use Rattle.netlist.specs.Meaning.Limits.{mostCells}
@@ -31,7 +31,7 @@ pub record Ordered (d : Design) (l : List ℕ) : Type 0 where
 
 -- an order where no number applies, zero beyond it; beside a number no cells
 pub record Plans (d : Design) (number : ℕ) (l : List ℕ) : Type 0 where
-  pub lowest : LowestOrNone (DesignFault d) number
+  pub lowest : FirstOrNone (DesignFault d) number
   pub ordered : number ≡ 0 → Ordered d l
   pub beyond : number ≡ 0 → ZeroFrom (d .count) l
   pub refused : (number ≡ 0 → ⊥) → Zero l

@@ -12,7 +12,7 @@
 use Prim.Native.Nat.{ℕ, _-_, _<_}
 use mathlib.Core.Path.{_≡_}
 use mathlib.Core.List.{List, [], _∷_}
-use Rattle.memory.specs.Meaning.Refusals.{Free, Lowest}
+use Rattle.memory.specs.Meaning.Refusals.{Free, First}
 use Rattle.netlist.specs.Meaning.Nets.{outputs}
 use Rattle.simulator.specs.Meaning.Clock.{IsStep}
 use Rattle.image.specs.Meaning.Format.{decoded}
@@ -132,5 +132,5 @@ pub record BenchSheet : Type 0 where
   pub empty-accepted : Free (ImageFault imageEmpty)
   pub empty-same : FoundSame imageEmpty imageEmpty []
   -- "`10 00 00 90 10 00`, a NOT reading its own net: 9. `10 00 00 01`: 7"
-  pub ring-nine : Lowest (ImageFault imageRing) 9
-  pub pad-seven : Lowest (ImageFault imagePad) 7
+  pub ring-nine : First (ImageFault imageRing) 9
+  pub pad-seven : First (ImageFault imagePad) 7

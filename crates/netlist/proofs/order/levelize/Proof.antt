@@ -4,7 +4,7 @@ use mathlib.Core.Path.{_≡_, refl, sym, _∙_}
 use mathlib.Core.List.{List}
 use native.Mathlib.Omega.{arith}
 use borrow.Author.Needs.{needs}
-use Rattle.memory.specs.Meaning.Refusals.{LowestOrNone}
+use Rattle.memory.specs.Meaning.Refusals.{FirstOrNone}
 use Rattle.memory.specs.Meaning.Slices.{Zero}
 use Rattle.memory.proofs.Refusals.{no-number}
 use Rattle.netlist.specs.declared.Design.{Design}
@@ -23,7 +23,7 @@ no-plan-requires : tie.Need-no-plan-requires
 no-plan-requires c κs = search needs
 
 -- a number that is refused, with a list of zeros
-refusal : {d : Design} {number : ℕ} {l : List ℕ} (n : ℕ) → (n ≡ 0 → ⊥) → (number ≡ n) × Zero l → LowestOrNone (DesignFault d) n → Plans d number l
+refusal : {d : Design} {number : ℕ} {l : List ℕ} (n : ℕ) → (n ≡ 0 → ⊥) → (number ≡ n) × Zero l → FirstOrNone (DesignFault d) n → Plans d number l
 refusal {d} {number} {l} n z w f =
     let number-zero : number ≡ 0 → ⊥ = λ e. z (sym (w .0) ∙ e) in
     record { lowest = rw (w .0) f; ordered = λ e. absurd (number-zero e); beyond = λ e. absurd (number-zero e); refused = λ _. w .1 }

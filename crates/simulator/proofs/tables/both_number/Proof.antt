@@ -10,17 +10,17 @@ table-number-requires c κs = search needs
 table-number-requires-2 : tie.Need-table-number-requires-2
 table-number-requires-2 c κs = search needs
 
-lower-number-requires : tie.Need-lower-number-requires
-lower-number-requires c κs = search needs
+earlier-number-requires : tie.Need-earlier-number-requires
+earlier-number-requires c κs = search needs
 
 interface-number-requires : tie.Need-interface-number-requires
 interface-number-requires c κs = search needs
 
-lower-number-requires-2 : tie.Need-lower-number-requires-2
-lower-number-requires-2 c κs = search needs
+earlier-number-requires-2 : tie.Need-earlier-number-requires-2
+earlier-number-requires-2 c κs = search needs
 
 returns : tie.Need-returns
-returns c = both-lowest _ _ _ _ _ _ (c .before .before .before .before .table-number .ensures) (c .before .before .before .table-number2 .ensures) (c .before .interface-number .ensures) (c .before .before .lower-number .ensures) (c .lower-number2 .ensures)
+returns c = both-lowest _ _ _ _ _ _ (c .before .before .before .before .table-number .ensures) (c .before .before .before .table-number2 .ensures) (c .before .interface-number .ensures) (c .before .before .earlier-number .ensures) (c .earlier-number2 .ensures)
 
 pub both-number-spec : {M : Type 1} → statement M
 both-number-spec =
@@ -28,7 +28,7 @@ both-number-spec =
     (tie.spec
     table-number-requires
     table-number-requires-2
-    lower-number-requires
+    earlier-number-requires
     interface-number-requires
-    lower-number-requires-2
+    earlier-number-requires-2
     returns)

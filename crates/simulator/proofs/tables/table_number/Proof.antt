@@ -6,7 +6,7 @@ use Rattle.simulator.proofs.tables.table_number.Statement.{statement}
 use Rattle.simulator.proofs.tables.table_number.Tie as tie
 
 returns : tie.Need-returns
-returns c = table-design _ _ _ (c .if1 .taken) (c .before .pre .some (c .if1 .taken))
+returns c = table-design _ _ _ (c .before .pre .some (c .if1 .taken))
 
 size-requires : tie.Need-size-requires
 size-requires c κs = sound-of (c .before .pre .none (c .if1 .left))
