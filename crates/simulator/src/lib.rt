@@ -1,5 +1,4 @@
 // One clock of a design, and the tables of all its clocks.
-mod eval;
 mod tables;
 
 ghost use lib.ListN.{length};
@@ -21,14 +20,14 @@ pub fn clock(d: Design, state: usize, vector: usize) -> Clocked
     if plan.number != 0 {
         return Clocked::Refused(plan.number);
     }
-    if eval::power(d.latches) <= state {
+    if evaluator::power(d.latches) <= state {
         return Clocked::Refused(14);
     }
-    if eval::power(d.inputs) <= vector {
+    if evaluator::power(d.inputs) <= vector {
         return Clocked::Refused(14);
     }
     let cells = plan.cells;
-    let s = eval::step(d, cells, state, vector);
+    let s = evaluator::step(d, cells, state, vector);
     Clocked::Step {
         next: s.next,
         out: s.out,
@@ -58,8 +57,8 @@ pub fn tabulate(d: Design, next: &mut [u8], out: &mut [u8]) -> Tabulated
     let cells = plan.cells;
     tables::fill(d, cells, next, out);
     Tabulated::Table {
-        states: eval::power(d.latches),
-        vectors: eval::power(d.inputs),
+        states: evaluator::power(d.latches),
+        vectors: evaluator::power(d.inputs),
     }
 }
 
@@ -113,8 +112,8 @@ pub fn tabulate_both(
     let new_cells = new_plan.cells;
     tables::fill(new, new_cells, new_next, new_out);
     TabulatedBoth::Both {
-        old: eval::power(old.latches),
-        new: eval::power(new.latches),
-        vectors: eval::power(old.inputs),
+        old: evaluator::power(old.latches),
+        new: evaluator::power(new.latches),
+        vectors: evaluator::power(old.inputs),
     }
 }

@@ -1,11 +1,11 @@
 -- `values`: each cell reads nets that have their value already.
-use Rattle.simulator.proofs.Sweep.{Swept, swept-none, swept-more, swept-all}
+use Rattle.evaluator.proofs.Sweep.{Swept, swept-none, swept-more, swept-all}
 use borrow.Author.Needs.{needs}
 use native.Mathlib.Omega.{arith}
 use mathlib.Core.Path.{_≡_, subst}
 use Prim.Native.Nat.{ℕ, _-_, _≤_}
-use Rattle.simulator.proofs.eval.values.Statement.{statement}
-use Rattle.simulator.proofs.eval.values.Tie as tie
+use Rattle.evaluator.proofs.values.Statement.{statement}
+use Rattle.evaluator.proofs.values.Tie as tie
 
 abbrev Inv-loop : tie.InvT-loop
 Inv-loop s v d cells base count vals₀ k₀ vals k = (k ≤ count) × Swept d s v cells k vals

@@ -1,12 +1,12 @@
 -- `spread`: one bit after another.
-use Rattle.simulator.proofs.Sources.{spread-none, spread-more}
-use Rattle.simulator.specs.Working.Values.{Spreads}
+use Rattle.evaluator.proofs.Spreading.{spread-none, spread-more}
+use Rattle.evaluator.specs.Working.Values.{Spreads}
 use borrow.Author.Needs.{needs}
 use native.Mathlib.Omega.{arith}
 use Prim.Native.Nat.{_-_, _≤_}
 use mathlib.Core.Path.{_≡_, refl}
-use Rattle.simulator.proofs.eval.spread.Statement.{statement}
-use Rattle.simulator.proofs.eval.spread.Tie as tie
+use Rattle.evaluator.proofs.spread.Statement.{statement}
+use Rattle.evaluator.proofs.spread.Tie as tie
 
 abbrev Inv-loop : tie.InvT-loop
 Inv-loop vals₀ start width number j₀ vals j = (j ≤ width) × Spreads start width number j vals₀ vals

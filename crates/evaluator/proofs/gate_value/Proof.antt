@@ -1,12 +1,12 @@
 -- `gate_value`: by the kind.
-use Rattle.simulator.proofs.Truth.{kind-lt}
+use Rattle.evaluator.proofs.Truth.{kind-lt}
 use Rattle.netlist.specs.Meaning.Gates.{kindOf, truth}
 use Rattle.numbers.proofs.Order.{past}
 use native.Mathlib.Omega.{arith}
 use mathlib.Core.Path.{_≡_, sym, _∙_}
 use borrow.Author.Needs.{needs}
-use Rattle.simulator.proofs.eval.gate_value.Statement.{statement}
-use Rattle.simulator.proofs.eval.gate_value.Tie as tie
+use Rattle.evaluator.proofs.gate_value.Statement.{statement}
+use Rattle.evaluator.proofs.gate_value.Tie as tie
 
 kind-of-requires : tie.Need-kind-of-requires
 kind-of-requires c κs = search needs

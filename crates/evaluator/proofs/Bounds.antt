@@ -11,7 +11,7 @@ use Rattle.numbers.specs.Meaning.Bits.{bitOf}
 use Rattle.numbers.proofs.Digits.{horner-lt}
 use Rattle.netlist.specs.declared.Design.{Design}
 use Rattle.netlist.specs.Meaning.Nets.{cellBase, netsOf, gateAt, gateValue, source, settled, value, nextBit, outputBit, nextState, outputs, statesOf}
-use Rattle.simulator.proofs.Truth.{truth-lt}
+use Rattle.evaluator.proofs.Truth.{truth-lt}
 
 pub source-lt : (d : Design) (s v n : ℕ) → source d s v n < 2
 source-lt d s v n = go (ltb n 2) refl (ltb n (2 + d .inputs))

@@ -7,11 +7,10 @@ ghost use Prim.Native.Nat.{ℕ, _+_, _^_, _<_, _≤_};
 ghost use lib.ListN.{length, getD};
 ghost use Rattle.numbers.specs.Meaning.Bits.{horner};
 ghost use Rattle.memory.specs.Working.Filling.{Filled};
-ghost use Rattle.simulator.specs.Working.Values.{mostNets};
 ghost use Rattle.netlist.specs.Meaning.Gates.{firstOf, secondOf, truth};
 ghost use Rattle.netlist.specs.Meaning.Nets.{cellBase, gateValue, source, value, nextState, outputs};
 ghost use Rattle.netlist.specs.Working.Placing.{Sound};
-ghost use Rattle.simulator.specs.Working.Values.{Evaluable, Holds, Readable, Spreads};
+ghost use Rattle.evaluator.specs.Working.Values.{mostNets, Evaluable, Holds, Readable, Spreads};
 use netlist::Design;
 use netlist::Gate;
 use netlist::Image;
@@ -22,7 +21,7 @@ pub struct Stepped {
 }
 
 // One clock of a design with an order of its cells.
-pub(crate) fn step(d: Design, cells: [u16; Image::MOST_CELLS], s: usize, v: usize) -> Stepped
+pub fn step(d: Design, cells: [u16; Image::MOST_CELLS], s: usize, v: usize) -> Stepped
     requires { ⌜ Evaluable d cells ⌝ }
     ensures { λ r. ⌜ (r .next ≡ nextState d s v) × (r .out ≡ outputs d s v) ⌝ }
 {
@@ -35,7 +34,7 @@ pub(crate) fn step(d: Design, cells: [u16; Image::MOST_CELLS], s: usize, v: usiz
 }
 
 // How many numbers n bits have.
-pub(crate) fn power(n: u8) -> usize
+pub fn power(n: u8) -> usize
     requires { ⌜ n ≤ 8 ⌝ }
     ensures { λ r. ⌜ (r ≡ 2 ^ n) × (r ≤ 256) ⌝ }
 {

@@ -1,8 +1,8 @@
 -- `sources`: the constants, the vector's bits, the state's bits.
-use Rattle.simulator.proofs.Sources.{sources-filled}
+use Rattle.evaluator.proofs.Spreading.{sources-filled}
 use borrow.Author.Needs.{needs}
-use Rattle.simulator.proofs.eval.sources.Statement.{statement}
-use Rattle.simulator.proofs.eval.sources.Tie as tie
+use Rattle.evaluator.proofs.sources.Statement.{statement}
+use Rattle.evaluator.proofs.sources.Tie as tie
 
 cast-inputs : tie.Need-cast-inputs
 cast-inputs c = search needs

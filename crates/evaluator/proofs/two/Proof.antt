@@ -1,9 +1,9 @@
 -- `two`: the table's rule.
-use Rattle.simulator.proofs.Truth.{two-law}
+use Rattle.evaluator.proofs.Truth.{two-law}
 use native.Mathlib.Omega.{arith}
 use borrow.Author.Needs.{needs}
-use Rattle.simulator.proofs.eval.two.Statement.{statement}
-use Rattle.simulator.proofs.eval.two.Tie as tie
+use Rattle.evaluator.proofs.two.Statement.{statement}
+use Rattle.evaluator.proofs.two.Tie as tie
 
 sub-row : tie.Need-sub-row
 sub-row c = search needs

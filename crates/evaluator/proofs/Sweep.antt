@@ -12,7 +12,7 @@ use lib.ListN.{length, getD, set, length-set}
 use lib.Seq.{getD-set-same, getD-set-other}
 use Rattle.memory.specs.Working.Filling.{Filled}
 use Rattle.netlist.specs.declared.Design.{Design}
-use Rattle.simulator.specs.Working.Values.{mostNets}
+use Rattle.evaluator.specs.Working.Values.{mostNets}
 use Rattle.netlist.specs.Meaning.Gates.{firstOf, secondOf}
 use Rattle.netlist.specs.Meaning.Nets.{cellBase, netsOf, gateAt, gateValue, source, value}
 use Rattle.netlist.specs.Meaning.Faults.{Accepted}
@@ -21,9 +21,9 @@ use Rattle.netlist.specs.Working.Placing.{Sound}
 use Rattle.netlist.proofs.Loops.{order-free}
 use Rattle.netlist.proofs.Numbers.{accepted-of, sound-not-3, sound-not-5}
 use Rattle.netlist.proofs.Values.{settled-source, value-satisfies}
-use Rattle.simulator.specs.Working.Values.{Evaluable, Holds, Readable}
-use Rattle.simulator.proofs.Truth.{truth-lt}
-use Rattle.simulator.proofs.Values.{source-lt, value-lt, value-past}
+use Rattle.evaluator.specs.Working.Values.{Evaluable, Holds, Readable}
+use Rattle.evaluator.proofs.Truth.{truth-lt}
+use Rattle.evaluator.proofs.Bounds.{source-lt, value-lt, value-past}
 
 -- the sources and the first k cells of the list have their values; the nets past the last are 0
 pub record Swept (d : Design) (s v : ℕ) (l : List ℕ) (k : ℕ) (vals : List ℕ) : Type 0 where

@@ -10,9 +10,9 @@ use Rattle.numbers.specs.Meaning.Bits.{bitOf}
 use Rattle.memory.specs.Working.Filling.{Filled}
 use Rattle.memory.proofs.Filling.{filled-none, filled-more}
 use Rattle.netlist.specs.declared.Design.{Design}
-use Rattle.simulator.specs.Working.Values.{mostNets}
+use Rattle.evaluator.specs.Working.Values.{mostNets}
 use Rattle.netlist.specs.Meaning.Nets.{cellBase, source}
-use Rattle.simulator.specs.Working.Values.{Spreads}
+use Rattle.evaluator.specs.Working.Values.{Spreads}
 
 -- a bit more
 pub spread-none : (start width x : ℕ) (l : List ℕ) → Spreads start width x 0 l l

@@ -2,8 +2,8 @@
 use lib.Pow.{pow-mono}
 use native.Mathlib.Omega.{arith}
 use borrow.Author.Needs.{needs}
-use Rattle.simulator.proofs.eval.power.Statement.{statement}
-use Rattle.simulator.proofs.eval.power.Tie as tie
+use Rattle.evaluator.proofs.power.Statement.{statement}
+use Rattle.evaluator.proofs.power.Tie as tie
 
 shl-result : tie.Need-shl-result
 shl-result c = search needs

@@ -1,11 +1,11 @@
 -- `step`: the values, and the two words that they spell.
-use Rattle.simulator.proofs.Sweep.{readable}
+use Rattle.evaluator.proofs.Sweep.{readable}
 use Rattle.numbers.proofs.Digits.{horner-cong}
 use native.Mathlib.Omega.{arith}
 use mathlib.Core.Path.{_∙_}
 use borrow.Author.Needs.{needs}
-use Rattle.simulator.proofs.eval.step.Statement.{statement}
-use Rattle.simulator.proofs.eval.step.Tie as tie
+use Rattle.evaluator.proofs.step.Statement.{statement}
+use Rattle.evaluator.proofs.step.Tie as tie
 
 values-requires : tie.Need-values-requires
 values-requires c κs = search needs

@@ -9,7 +9,7 @@ use lib.ListN.{getD}
 use Rattle.netlist.specs.declared.Gate.{Gate}
 use Rattle.netlist.specs.declared.Gate.the-variants.{Buf, Not, And, Or, Xor, Nand, Nor, Xnor}
 use Rattle.netlist.specs.Meaning.Gates.{kindOf, truth}
-use Rattle.simulator.proofs.Table.{at}
+use Rattle.evaluator.proofs.Table.{at}
 
 table : List ℕ
 table = 8 ∷ 14 ∷ 6 ∷ 7 ∷ 1 ∷ 9 ∷ []

@@ -7,8 +7,8 @@ use native.Mathlib.Numerals.{add-one}
 use native.Mathlib.Omega.{arith}
 use mathlib.Core.Path.{_≡_, refl, _∙_, ap}
 use Prim.Native.Nat.{_-_, _≤_}
-use Rattle.simulator.proofs.eval.word.Statement.{statement}
-use Rattle.simulator.proofs.eval.word.Tie as tie
+use Rattle.evaluator.proofs.word.Statement.{statement}
+use Rattle.evaluator.proofs.word.Tie as tie
 
 abbrev Inv-loop : tie.InvT-loop
 Inv-loop nets n vals r₀ k₀ r k = (k ≤ n) × (r ≡ horner (λ i. getD vals (getD nets i 0) 0) k)
