@@ -16,9 +16,9 @@ use Rattle.evaluator.specs.Working.Values.{mostNets}
 use Rattle.netlist.specs.Meaning.Gates.{firstOf, secondOf}
 use Rattle.netlist.specs.Meaning.Nets.{cellBase, netsOf, gateAt, gateValue, source, value}
 use Rattle.netlist.specs.Meaning.Faults.{Accepted}
-use Rattle.netlist.specs.Meaning.Order.{Earlier, Ordered}
-use Rattle.netlist.specs.Working.Placing.{Sound}
-use Rattle.netlist.proofs.Loops.{order-free}
+use Rattle.order.specs.Meaning.Order.{Earlier, Ordered}
+use Rattle.netlist.specs.Working.Sound.{Sound}
+use Rattle.order.proofs.NoLoop.{order-free}
 use Rattle.netlist.proofs.Numbers.{accepted-of, sound-not-3, sound-not-5}
 use Rattle.netlist.proofs.Values.{settled-source, value-satisfies}
 use Rattle.evaluator.specs.Working.Values.{Evaluable, Holds, Readable}

@@ -9,7 +9,7 @@ ghost use Rattle.numbers.specs.Meaning.Bits.{horner};
 ghost use Rattle.memory.specs.Working.Filling.{Filled};
 ghost use Rattle.netlist.specs.Meaning.Gates.{firstOf, secondOf, truth};
 ghost use Rattle.netlist.specs.Meaning.Nets.{cellBase, gateValue, source, value, nextState, outputs};
-ghost use Rattle.netlist.specs.Working.Placing.{Sound};
+ghost use Rattle.netlist.specs.Working.Sound.{Sound};
 ghost use Rattle.evaluator.specs.Working.Values.{mostNets, Evaluable, Holds, Readable, Spreads};
 use netlist::Design;
 use netlist::Gate;

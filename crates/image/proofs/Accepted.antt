@@ -7,7 +7,7 @@ use Rattle.memory.specs.Meaning.Refusals.{Free}
 use Rattle.netlist.specs.declared.Design.{Design}
 use Rattle.netlist.specs.Meaning.Nets.{gateAt, netsOf}
 use Rattle.netlist.specs.Meaning.Faults.{DesignFault, Accepted, SameDesign}
-use Rattle.netlist.specs.Working.Placing.{Sound}
+use Rattle.netlist.specs.Working.Sound.{Sound}
 use Rattle.netlist.proofs.Numbers.{accepted-of, sound-of}
 use Rattle.netlist.proofs.Same.{same-fault, same-sym}
 use Rattle.image.specs.Meaning.Format.{gateIn, netsIn, bytesIn, decoded, tailNet, bytesOf, Encodes}

@@ -44,7 +44,7 @@ pub fn read(image: &[u8]) -> Reading
         return refusal(number);
     }
     let design = decode::decode(image);
-    let number = faults::field_fault(image, netlist::fault_of(design));
+    let number = faults::field_fault(image, order::fault_of(design));
     if number != 0 {
         return refusal(number);
     }

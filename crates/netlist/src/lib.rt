@@ -1,12 +1,7 @@
 // Netlists: gates, cells and designs, with the limits of the image format.
-mod faults;
-pub mod order;
-
 ghost use mathlib.Core.Path.{_≡_};
 ghost use lib.ListN.{getD};
-ghost use Rattle.memory.specs.Meaning.Refusals.{LowestOrNone};
 ghost use Rattle.netlist.specs.Meaning.Gates.{kindOf, firstOf, secondOf};
-ghost use Rattle.netlist.specs.Meaning.Faults.{DesignFault};
 ghost use Rattle.netlist.specs.Meaning.Limits.{AreLimits};
 
 // The image format: its limits and the widths of its fields, named once.
@@ -98,14 +93,6 @@ pub struct Design {
     pub cells: [Cell; Image::MOST_CELLS],
     pub data: [u16; Image::MOST_LATCHES],
     pub shown: [u16; Image::MOST_OUTPUTS],
-}
-
-// The lowest of 3, 5 and 9 that applies to a design, or 0.
-pub fn fault_of(d: Design) -> u8
-    ensures { λ r. ⌜ LowestOrNone (DesignFault d) r ⌝ }
-{
-    let plan = order::levelize(d);
-    plan.number
 }
 
 // The net number at a place of a list, 0 past its end.

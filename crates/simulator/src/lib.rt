@@ -16,7 +16,7 @@ pub enum Clocked {
 pub fn clock(d: Design, state: usize, vector: usize) -> Clocked
     ensures { λ r. ⌜ Clocks d state vector r ⌝ }
 {
-    let plan = netlist::order::levelize(d);
+    let plan = order::levelize(d);
     if plan.number != 0 {
         return Clocked::Refused(plan.number);
     }
@@ -43,7 +43,7 @@ pub enum Tabulated {
 pub fn tabulate(d: Design, next: &mut [u8], out: &mut [u8]) -> Tabulated
     ensures { λ r. ⌜ Tabulates d (length (now (next .entry))) (length (now (out .entry))) r (now (next .exit)) (now (out .exit)) ⌝ }
 {
-    let plan = netlist::order::levelize(d);
+    let plan = order::levelize(d);
     let room = Room {
         next: next.len(),
         out: out.len(),
@@ -82,8 +82,8 @@ pub fn tabulate_both(
 ) -> TabulatedBoth
     ensures { λ r. ⌜ TabulatesBoth old new (length (now («old_next» .entry))) (length (now («old_out» .entry))) (length (now («new_next» .entry))) (length (now («new_out» .entry))) r (now («old_next» .exit)) (now («old_out» .exit)) (now («new_next» .exit)) (now («new_out» .exit)) ⌝ }
 {
-    let old_plan = netlist::order::levelize(old);
-    let new_plan = netlist::order::levelize(new);
+    let old_plan = order::levelize(old);
+    let new_plan = order::levelize(new);
     let old_room = Room {
         next: old_next.len(),
         out: old_out.len(),

@@ -4,7 +4,7 @@ ghost use Prim.Native.Nat.{_≤_};
 ghost use lib.ListN.{length};
 ghost use Rattle.memory.specs.Meaning.Refusals.{LowestOrNone};
 ghost use Rattle.netlist.specs.Meaning.Faults.{DesignFault};
-ghost use Rattle.netlist.specs.Working.Placing.{Sound};
+ghost use Rattle.netlist.specs.Working.Sound.{Sound};
 ghost use Rattle.simulator.specs.Meaning.Tables.{sizeOf, TableFault, InterfaceFault, BothFault};
 ghost use Rattle.simulator.specs.Working.Filling.{Fillable, FilledTables};
 use netlist::Design;

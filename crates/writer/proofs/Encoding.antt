@@ -14,7 +14,7 @@ use Rattle.netlist.specs.declared.Design.{Design}
 use Rattle.netlist.specs.Meaning.Limits.{kindBits, sizeBits, countBits, inputsAt, latchesAt, outputsAt, countAt, netBits, headerBits, cellBits}
 use Rattle.netlist.specs.Meaning.Gates.{kindOf, firstOf, secondOf}
 use Rattle.netlist.specs.Meaning.Nets.{gateAt, netsOf}
-use Rattle.netlist.specs.Working.Placing.{Sound}
+use Rattle.netlist.specs.Working.Sound.{Sound}
 use Rattle.image.specs.Meaning.Format.{bitAt, fieldAt, versionIn, inputsIn, latchesIn, outputsIn, countIn, kindIn, firstIn, secondIn, cellAt, tailNet, bitsOf, bytesOf, Encodes}
 use Rattle.image.proofs.Spelling.{field-of, field-lt}
 use Rattle.image.proofs.Gates.{kind-lt}

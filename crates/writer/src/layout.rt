@@ -4,7 +4,7 @@ ghost use Prim.Native.Nat.{ℕ, _+_, _<_, _≤_};
 ghost use lib.ListN.{length, getD};
 ghost use Rattle.numbers.specs.Meaning.Bits.{bitOf};
 ghost use Rattle.memory.specs.Meaning.Slices.{Zero};
-ghost use Rattle.netlist.specs.Working.Placing.{Sound};
+ghost use Rattle.netlist.specs.Working.Sound.{Sound};
 ghost use Rattle.netlist.specs.Meaning.Limits.{mostLatches, mostOutputs, mostCells, mostBytes};
 ghost use Rattle.image.specs.Meaning.Format.{bytesOf};
 ghost use Rattle.writer.specs.Meaning.Writing.{HoldsImage};

@@ -5,7 +5,7 @@ ghost use Rattle.memory.specs.Working.Filling.{Filled};
 ghost use Rattle.netlist.specs.Meaning.Gates.{firstOf, secondOf};
 ghost use Rattle.netlist.specs.Meaning.Limits.{mostLatches, mostOutputs, mostCells, netBits};
 ghost use Rattle.netlist.specs.Meaning.Nets.{gateAt};
-ghost use Rattle.netlist.specs.Working.Placing.{Sound};
+ghost use Rattle.netlist.specs.Working.Sound.{Sound};
 ghost use Rattle.image.specs.Meaning.Format.{tailNet};
 ghost use Rattle.writer.specs.Working.Packing.{joined, headerWord, cellWord, Packs};
 use netlist::Design;

@@ -12,8 +12,8 @@ use Rattle.numbers.specs.Meaning.Bits.{bitOf}
 use Rattle.memory.specs.Working.Filling.{Filled}
 use Rattle.netlist.specs.declared.Design.{Design}
 use Rattle.netlist.specs.Meaning.Limits.{mostInputs, mostLatches, mostCells}
-use Rattle.netlist.specs.Meaning.Order.{Ordered}
-use Rattle.netlist.specs.Working.Placing.{Sound}
+use Rattle.order.specs.Meaning.Order.{Ordered}
+use Rattle.netlist.specs.Working.Sound.{Sound}
 
 abbrev pub mostNets : ℕ
 mostNets = 2 + mostInputs + mostLatches + mostCells
