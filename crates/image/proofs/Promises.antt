@@ -6,7 +6,7 @@ use native.Mathlib.Omega.{arith}
 use Rattle.memory.specs.Meaning.Refusals.{LowestOrNone, Lowest, answer, refusal}
 use Rattle.image.specs.declared.Answer.the-variants.{Refused}
 use Rattle.image.specs.declared.Reading.{Reading}
-use Rattle.image.specs.Meaning.Faults.{ImageFault, HeaderFault}
+use Rattle.format.specs.Meaning.Faults.{ImageFault, HeaderFault}
 use Rattle.image.specs.Meaning.Reading.{ReadsImage, emptyDesign}
 
 -- a refusal with the lowest number, and the empty design beside it

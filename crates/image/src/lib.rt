@@ -1,11 +1,10 @@
 // The netlist image: its length, and the design that it spells.
-mod bits;
 mod decode;
-mod faults;
-mod fields;
 
 ghost use mathlib.Core.Path.{_≡_};
 ghost use Rattle.image.specs.Meaning.Reading.{Measures, ReadsImage, emptyDesign};
+use format::faults;
+use format::fields;
 use netlist::Design;
 
 pub enum Length {

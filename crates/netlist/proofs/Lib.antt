@@ -2,4 +2,3 @@ pub mod Numbers
 pub mod Loops
 pub mod Values
 pub mod Same
-pub mod Sizes

@@ -7,7 +7,7 @@ use Rattle.memory.proofs.Refusals.{lowest-early, lowest-late}
 use Rattle.netlist.specs.declared.Design.{Design}
 use Rattle.netlist.specs.Meaning.Faults.{DesignFault, Accepted}
 use Rattle.netlist.proofs.Numbers.{fault-bounds}
-use Rattle.image.specs.Meaning.Format.{bytesOf}
+use Rattle.format.specs.Meaning.Format.{bytesOf}
 use Rattle.writer.specs.Meaning.Writing.{WriteFault}
 
 module _ (d : Design) (n : ℕ) where
