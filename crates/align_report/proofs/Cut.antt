@@ -7,11 +7,11 @@ use lib.ListN.{length, getD, take, drop, length-drop}
 use lib.Seq.{getD-take, getD-drop, take-take, length-take-le}
 use Rattle.numbers.specs.Meaning.Bits.{bitOf}
 use Rattle.memory.specs.Meaning.Refusals.{Free, First}
-use Rattle.netlist.specs.Meaning.Limits.{mostBytes}
-use Rattle.netlist.proofs.Sizes.{bytes-le-most}
-use Rattle.image.specs.Meaning.Format.{bitAt, latchesIn, outputsIn, countIn, bytesIn}
-use Rattle.image.specs.Meaning.Faults.{ImageFault, HeaderFault}
-use Rattle.image.proofs.Refusals.{within-limits}
+use Rattle.format.specs.Meaning.Layout.{mostBytes}
+use Rattle.format.proofs.Sizes.{bytes-le-most}
+use Rattle.format.specs.Meaning.Format.{bitAt, latchesIn, outputsIn, countIn, bytesIn}
+use Rattle.format.specs.Meaning.Faults.{ImageFault, HeaderFault}
+use Rattle.format.proofs.Refusals.{within-limits}
 use Rattle.image.proofs.Long.{SameFront, same-bytes-in, header-there, free-there, never-free, lowest-there}
 use Rattle.machine.specs.Meaning.Lent.{Lent}
 use Rattle.compare.specs.Meaning.Comparing.{TablesLent}

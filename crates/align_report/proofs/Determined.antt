@@ -8,7 +8,7 @@ use Rattle.memory.specs.Meaning.Slices.{Zero}
 use Rattle.memory.proofs.Orders.{first-unique}
 use Rattle.memory.proofs.Slices.{zero-unique}
 use Rattle.netlist.specs.declared.Design.{Design}
-use Rattle.simulator.proofs.Values.{next-state-lt}
+use Rattle.evaluator.proofs.Bounds.{next-state-lt}
 use Rattle.machine.specs.Meaning.Lent.{Lent}
 use Rattle.machine.specs.Working.Pairs.{Closed}
 use Rattle.machine.proofs.Counting.{counts-unique}

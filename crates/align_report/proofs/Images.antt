@@ -12,8 +12,8 @@ use Rattle.netlist.specs.declared.Design.{Design}
 use Rattle.image.specs.declared.Length.{Length}
 use Rattle.image.specs.declared.Answer.{Answer}
 use Rattle.image.specs.declared.Reading.{Reading}
-use Rattle.image.specs.Meaning.Format.{bytesIn, decoded}
-use Rattle.image.specs.Meaning.Faults.{ImageFault, HeaderFault}
+use Rattle.format.specs.Meaning.Format.{bytesIn, decoded}
+use Rattle.format.specs.Meaning.Faults.{ImageFault, HeaderFault}
 use Rattle.image.specs.Meaning.Reading.{Measures, ReadsImage, lengthReply, readReply, emptyDesign}
 use Rattle.machine.specs.Meaning.Lent.{Lent}
 use Rattle.compare.specs.Meaning.Comparing.{TablesLent}

@@ -9,7 +9,7 @@ use Rattle.memory.specs.Meaning.Refusals.{Free, First}
 use Rattle.netlist.specs.declared.Design.{Design}
 use Rattle.netlist.specs.Meaning.Faults.{Accepted}
 use Rattle.simulator.specs.Meaning.Tables.{sizeOf, TableFault, InterfaceFault, BothFault}
-use Rattle.image.specs.Meaning.Faults.{ImageFault}
+use Rattle.format.specs.Meaning.Faults.{ImageFault}
 use Rattle.image.proofs.Accepted.{image-accepted}
 use Rattle.machine.specs.Meaning.Tables.{pairs}
 use Rattle.verdict.specs.Meaning.Decision.{short}

@@ -19,7 +19,7 @@ pub fn design(d: Design, tally: &mut [u32; Tally::PLACES]) {
     judge(
         b"FAULT",
         d,
-        refused(netlist::fault_of(d)),
+        refused(order::fault_of(d)),
         refused(number),
         tally,
     );

@@ -11,7 +11,7 @@ use Rattle.netlist.specs.Meaning.Nets.{statesOf, vectorsOf, nextState}
 use Rattle.netlist.specs.Meaning.Faults.{Accepted}
 use Rattle.netlist.proofs.Numbers.{sound-of}
 use Rattle.simulator.specs.Meaning.Tables.{sizeOf, HoldsDesign}
-use Rattle.simulator.proofs.Values.{next-state-lt}
+use Rattle.evaluator.proofs.Bounds.{next-state-lt}
 use Rattle.machine.specs.Meaning.Tables.{Ok, Tables, bothTables, pairs, oldMachine, newMachine}
 use Rattle.machine.specs.Working.Pairs.{SameMachine, SameSteps}
 use Rattle.machine.specs.Meaning.Faults.{OutOfRange, TooShort, LeadsOut, TablesFault}

@@ -8,8 +8,8 @@ use Rattle.netlist.specs.declared.Design.{Design}
 use Rattle.netlist.specs.Meaning.Faults.{Accepted, SameDesign}
 use Rattle.image.specs.declared.Answer.the-variants as Answer·variants
 use Rattle.image.specs.declared.Reading.{Reading}
-use Rattle.image.specs.Meaning.Format.{bytesOf, decoded, Encodes}
-use Rattle.image.specs.Meaning.Faults.{ImageFault}
+use Rattle.format.specs.Meaning.Format.{bytesOf, decoded, Encodes}
+use Rattle.format.specs.Meaning.Faults.{ImageFault}
 use Rattle.image.specs.Meaning.Reading.{ReadsImage}
 use Rattle.image.proofs.Accepted.{clean, spelled}
 use Rattle.writer.specs.declared.Written.{Written}

@@ -2,7 +2,7 @@
 ghost use mathlib.Core.Path.{_≡_};
 ghost use Prim.Native.Nat.{_+_, _≤_};
 ghost use lib.ListN.{length, take};
-ghost use Rattle.netlist.specs.Meaning.Limits.{mostBytes};
+ghost use Rattle.format.specs.Meaning.Layout.{mostBytes};
 ghost use Rattle.netlist.specs.Meaning.Faults.{Accepted};
 ghost use Rattle.converter.specs.Meaning.Output.{mostText, Converts};
 ghost use Rattle.converter.specs.Working.Images.{HoldsWhole};

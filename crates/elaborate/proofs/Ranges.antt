@@ -14,7 +14,7 @@ use Rattle.netlist.specs.declared.Cell.{Cell}
 use Rattle.netlist.specs.Meaning.Limits.{mostLatches, mostOutputs, mostCells}
 use Rattle.netlist.specs.Meaning.Gates.{blankCell}
 use Rattle.netlist.specs.Meaning.Nets.{netsOf, gateAt}
-use Rattle.netlist.specs.Working.Placing.{NetsBelow}
+use Rattle.netlist.specs.Working.Sound.{NetsBelow}
 use Rattle.netlist.specs.Meaning.Faults.{DesignFault, Accepted}
 use Rattle.netlist.proofs.Numbers.{not-5, accepted-of}
 use Rattle.drawing.specs.declared.Drawing.{Drawing}

@@ -27,7 +27,7 @@ pub fn design_of(d: Drawing) -> Reading
         return image::refusal(3);
     }
     let design = assembled(d, w);
-    if netlist::fault_of(design) != 0 {
+    if order::fault_of(design) != 0 {
         return image::refusal(9);
     }
     Reading {

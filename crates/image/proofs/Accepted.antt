@@ -7,15 +7,15 @@ use Rattle.memory.specs.Meaning.Refusals.{Free}
 use Rattle.netlist.specs.declared.Design.{Design}
 use Rattle.netlist.specs.Meaning.Nets.{gateAt, netsOf}
 use Rattle.netlist.specs.Meaning.Faults.{DesignFault, Accepted, SameDesign}
-use Rattle.netlist.specs.Working.Placing.{Sound}
+use Rattle.netlist.specs.Working.Sound.{Sound}
 use Rattle.netlist.proofs.Numbers.{accepted-of, sound-of}
 use Rattle.netlist.proofs.Same.{same-fault, same-sym}
-use Rattle.image.specs.Meaning.Format.{gateIn, netsIn, bytesIn, decoded, tailNet, bytesOf, Encodes}
-use Rattle.image.specs.Meaning.Faults.{ImageFault}
-use Rattle.image.proofs.Gates.{gate-is, one-net}
-use Rattle.image.proofs.Refusals.{within-limits}
-use Rattle.image.proofs.Decoding.{Decodes, decodes, encoded}
-use Rattle.image.proofs.Carried.{tail-data, tail-shown, tail-cases, image-3, image-5}
+use Rattle.format.specs.Meaning.Format.{gateIn, netsIn, bytesIn, decoded, tailNet, bytesOf, Encodes}
+use Rattle.format.specs.Meaning.Faults.{ImageFault}
+use Rattle.format.proofs.Gates.{gate-is, one-net}
+use Rattle.format.proofs.Refusals.{within-limits}
+use Rattle.format.proofs.Decoding.{Decodes, decodes, encoded}
+use Rattle.format.proofs.Carried.{tail-data, tail-shown, tail-cases, image-3, image-5}
 
 -- an image to which no number applies encodes its design, which is accepted
 module _ (b : List ℕ) (none : Free (ImageFault b)) where

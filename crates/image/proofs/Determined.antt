@@ -11,10 +11,10 @@ use Rattle.image.specs.declared.Length.the-variants as Length·variants
 use Rattle.image.specs.declared.Answer.{Answer}
 use Rattle.image.specs.declared.Answer.the-variants.{Accepted, Refused}
 use Rattle.image.specs.declared.Reading.{Reading}
-use Rattle.image.specs.Meaning.Format.{bytesIn}
-use Rattle.image.specs.Meaning.Faults.{HeaderFault}
+use Rattle.format.specs.Meaning.Format.{bytesIn}
+use Rattle.format.specs.Meaning.Faults.{HeaderFault}
 use Rattle.image.specs.Meaning.Reading.{Measures, ReadsImage, lengthReply}
-use Rattle.image.proofs.Refusals.{no-0}
+use Rattle.format.proofs.Refusals.{no-0}
 
 pub length-not-zero : {b : List ℕ} → Measures b (Length·variants.Refused 0) → ⊥
 length-not-zero p = no-0 (p .keeps .0 .applies .0)

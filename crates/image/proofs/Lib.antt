@@ -1,9 +1,3 @@
-pub mod Spelling
-pub mod Gates
-pub mod Refusals
-pub mod Decoding
-pub mod Carried
-pub mod Order
 pub mod Promises
 pub mod Accepted
 pub mod Determined

@@ -11,12 +11,12 @@ use Rattle.numbers.proofs.Digits.{horner-cong}
 use Rattle.memory.specs.Meaning.Refusals.{Free, First}
 use Rattle.memory.specs.Working.Lowest.{Lowest}
 use Rattle.memory.proofs.Table.{first-of-lowest, lowest-of-first}
-use Rattle.netlist.specs.Meaning.Limits.{mostBytes, sizeBits, countBits, kindBits, netBits, inputsAt, latchesAt, outputsAt, countAt}
-use Rattle.netlist.proofs.Sizes.{bytes-le-most}
-use Rattle.image.specs.Meaning.Format.{bitAt, fieldAt, versionIn, inputsIn, latchesIn, outputsIn, countIn, netsIn, bitsIn, bytesIn, cellAt, kindIn, firstIn, secondIn, tailIn}
-use Rattle.image.specs.Meaning.Faults.{ImageFault, HeaderFault}
-use Rattle.image.specs.Working.Scanning.{WithinLimits}
-use Rattle.image.proofs.Refusals.{image-numbered, header-numbered}
+use Rattle.format.specs.Meaning.Layout.{mostBytes, sizeBits, countBits, kindBits, netBits, inputsAt, latchesAt, outputsAt, countAt}
+use Rattle.format.proofs.Sizes.{bytes-le-most}
+use Rattle.format.specs.Meaning.Format.{bitAt, fieldAt, versionIn, inputsIn, latchesIn, outputsIn, countIn, netsIn, bitsIn, bytesIn, cellAt, kindIn, firstIn, secondIn, tailIn}
+use Rattle.format.specs.Meaning.Faults.{ImageFault, HeaderFault}
+use Rattle.format.specs.Working.Scanning.{WithinLimits}
+use Rattle.format.proofs.Refusals.{image-numbered, header-numbered}
 
 -- both are longer than any image, and agree as far as the largest goes
 pub record SameFront (b c : List ℕ) : Type 0 where

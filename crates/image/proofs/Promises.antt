@@ -7,9 +7,9 @@ use Rattle.memory.specs.Meaning.Refusals.{FirstOrNone, answer, refusal}
 use Rattle.memory.proofs.Refusals.{first-early}
 use Rattle.image.specs.declared.Answer.the-variants.{Refused}
 use Rattle.image.specs.declared.Reading.{Reading}
-use Rattle.image.specs.Meaning.Faults.{ImageFault, HeaderFault}
+use Rattle.format.specs.Meaning.Faults.{ImageFault, HeaderFault}
 use Rattle.image.specs.Meaning.Reading.{ReadsImage, emptyDesign}
-use Rattle.image.proofs.Refusals.{image-numbered}
+use Rattle.format.proofs.Refusals.{image-numbered}
 
 -- a refusal with the lowest number, and the empty design beside it
 pub turned-away : (b : List ℕ) (n : ℕ) (r : Reading) → (n ≡ 0 → ⊥) → FirstOrNone (ImageFault b) n → r .answer ≡ Refused n → r .design ≡ emptyDesign → ReadsImage b r

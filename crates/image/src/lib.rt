@@ -1,11 +1,10 @@
 // The netlist image: its length, and the design that it spells.
-mod bits;
 mod decode;
-mod faults;
-mod fields;
 
 ghost use mathlib.Core.Path.{_≡_};
 ghost use Rattle.image.specs.Meaning.Reading.{Measures, ReadsImage, emptyDesign};
+use format::faults;
+use format::fields;
 use netlist::Design;
 
 pub enum Length {
@@ -44,7 +43,7 @@ pub fn read(image: &[u8]) -> Reading
         return refusal(number);
     }
     let design = decode::decode(image);
-    let number = faults::field_fault(image, netlist::fault_of(design));
+    let number = faults::field_fault(image, order::fault_of(design));
     if number != 0 {
         return refusal(number);
     }

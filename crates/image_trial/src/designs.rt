@@ -1,4 +1,5 @@
 // The designs that the trial writes.
+use format::Layout;
 use netlist::Cell;
 use netlist::Design;
 use netlist::Gate;
@@ -78,17 +79,17 @@ pub fn one_cell(gate: Gate) -> Design {
 }
 
 // The bytes that writing a design of the largest size leaves.
-pub fn image_of(d: Design) -> [u8; Image::MOST_BYTES] {
-    let mut bytes = [0u8; Image::MOST_BYTES];
+pub fn image_of(d: Design) -> [u8; Layout::MOST_BYTES] {
+    let mut bytes = [0u8; Layout::MOST_BYTES];
     writer::write(d, &mut bytes);
     bytes
 }
 
 // The same with a byte behind them.
-pub fn one_byte_more(bytes: [u8; Image::MOST_BYTES]) -> [u8; Image::MOST_BYTES + 1] {
-    let mut more = [0u8; Image::MOST_BYTES + 1];
+pub fn one_byte_more(bytes: [u8; Layout::MOST_BYTES]) -> [u8; Layout::MOST_BYTES + 1] {
+    let mut more = [0u8; Layout::MOST_BYTES + 1];
     let mut i = 0;
-    while i < Image::MOST_BYTES {
+    while i < Layout::MOST_BYTES {
         more[i] = bytes[i];
         i += 1;
     }
@@ -108,10 +109,10 @@ pub fn longer() -> [u8; 700] {
     [7u8; 700]
 }
 
-pub fn whole() -> [u8; Image::MOST_BYTES] {
-    [7u8; Image::MOST_BYTES]
+pub fn whole() -> [u8; Layout::MOST_BYTES] {
+    [7u8; Layout::MOST_BYTES]
 }
 
-pub fn short() -> [u8; Image::MOST_BYTES - 1] {
-    [7u8; Image::MOST_BYTES - 1]
+pub fn short() -> [u8; Layout::MOST_BYTES - 1] {
+    [7u8; Layout::MOST_BYTES - 1]
 }

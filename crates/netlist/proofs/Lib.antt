@@ -1,6 +1,4 @@
 pub mod Numbers
 pub mod Loops
 pub mod Values
-pub mod Placing
 pub mod Same
-pub mod Sizes

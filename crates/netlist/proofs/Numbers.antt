@@ -15,7 +15,7 @@ use Rattle.netlist.specs.Meaning.Gates.{firstOf, secondOf}
 use Rattle.netlist.specs.Meaning.Nets.{netsOf, gateAt}
 use Rattle.netlist.specs.Meaning.Loops.{OnLoop}
 use Rattle.netlist.specs.Meaning.Faults.{DesignFault, Accepted}
-use Rattle.netlist.specs.Working.Placing.{Within, NetsBelow, Sound}
+use Rattle.netlist.specs.Working.Sound.{Within, NetsBelow, Sound}
 
 -- every number that applies is 3, 5 or 9
 pub data Kind (d : Design) (m : ℕ) : Type 0 where

@@ -12,7 +12,7 @@ use Rattle.netlist.specs.Meaning.Gates.{firstOf, secondOf}
 use Rattle.netlist.specs.Meaning.Nets.{cellBase, netsOf, gateAt, gateValue, source, settled, value, Satisfies}
 use Rattle.netlist.specs.Meaning.Loops.{OnLoop}
 use Rattle.netlist.specs.Meaning.Faults.{Accepted}
-use Rattle.netlist.specs.Working.Placing.{Sound}
+use Rattle.netlist.specs.Working.Sound.{Sound}
 use Rattle.netlist.proofs.Loops.{clash, both-true, readyBy, cellReady, ReadsUnmarked, reads-unmarked, Walk, stop, go, walk-loops}
 use Rattle.netlist.proofs.Numbers.{sound-of, loop-free}
 

@@ -4,4 +4,3 @@ pub mod Gates
 pub mod Nets
 pub mod Loops
 pub mod Faults
-pub mod Order

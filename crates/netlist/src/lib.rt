@@ -1,15 +1,10 @@
 // Netlists: gates, cells and designs, with the limits of the image format.
-mod faults;
-pub mod order;
-
 ghost use mathlib.Core.Path.{_≡_};
 ghost use lib.ListN.{getD};
-ghost use Rattle.memory.specs.Meaning.Refusals.{FirstOrNone};
 ghost use Rattle.netlist.specs.Meaning.Gates.{kindOf, firstOf, secondOf};
-ghost use Rattle.netlist.specs.Meaning.Faults.{DesignFault};
 ghost use Rattle.netlist.specs.Meaning.Limits.{AreLimits};
 
-// The image format: its limits and the widths of its fields, named once.
+// The limits of the image format, named once.
 pub struct Image {}
 
 impl Image {
@@ -20,33 +15,6 @@ impl Image {
     pub const MOST_OUTPUTS: usize = 8;
 
     pub const MOST_CELLS: usize = 256;
-
-    // The header: version, inputs, flip-flops and outputs of one width, then the number of cells.
-    pub const SIZE_BITS: usize = 4;
-
-    pub const COUNT_BITS: usize = 9;
-
-    pub const INPUTS_AT: usize = Image::SIZE_BITS;
-
-    pub const LATCHES_AT: usize = Image::INPUTS_AT + Image::SIZE_BITS;
-
-    pub const OUTPUTS_AT: usize = Image::LATCHES_AT + Image::SIZE_BITS;
-
-    pub const COUNT_AT: usize = Image::OUTPUTS_AT + Image::SIZE_BITS;
-
-    pub const HEADER_BITS: usize = Image::COUNT_AT + Image::COUNT_BITS;
-
-    pub const KIND_BITS: usize = 3;
-
-    pub const NET_BITS: usize = 9;
-
-    pub const CELL_BITS: usize = Image::KIND_BITS + Image::NET_BITS + Image::NET_BITS;
-
-    pub const MOST_BYTES: usize = (Image::HEADER_BITS
-        + Image::CELL_BITS * Image::MOST_CELLS
-        + Image::NET_BITS * (Image::MOST_LATCHES + Image::MOST_OUTPUTS)
-        + 7)
-        / 8;
 
     pub const MOST_NETS: usize = 2 + Image::MOST_INPUTS + Image::MOST_LATCHES + Image::MOST_CELLS;
 
@@ -59,7 +27,6 @@ impl Image {
             latches: Image::MOST_LATCHES,
             outputs: Image::MOST_OUTPUTS,
             cells: Image::MOST_CELLS,
-            bytes: Image::MOST_BYTES,
         }
     }
 }
@@ -69,7 +36,6 @@ pub struct Limits {
     pub latches: usize,
     pub outputs: usize,
     pub cells: usize,
-    pub bytes: usize,
 }
 
 // A gate with exactly the nets that its kind reads.
@@ -98,14 +64,6 @@ pub struct Design {
     pub cells: [Cell; Image::MOST_CELLS],
     pub data: [u16; Image::MOST_LATCHES],
     pub shown: [u16; Image::MOST_OUTPUTS],
-}
-
-// The lowest of 3, 5 and 9 that applies to a design, or 0.
-pub fn fault_of(d: Design) -> u8
-    ensures { λ r. ⌜ FirstOrNone (DesignFault d) r ⌝ }
-{
-    let plan = order::levelize(d);
-    plan.number
 }
 
 // The net number at a place of a list, 0 past its end.

@@ -3,8 +3,8 @@ use Prim.Native.Nat.{ℕ, _^_, _<_}
 use mathlib.Core.Path.{_≡_, sym, subst}
 use mathlib.Core.List.{List}
 use Rattle.netlist.specs.Meaning.Nets.{nextState}
-use Rattle.simulator.proofs.Values.{next-state-lt}
-use Rattle.image.specs.Meaning.Format.{decoded}
+use Rattle.evaluator.proofs.Bounds.{next-state-lt}
+use Rattle.format.specs.Meaning.Format.{decoded}
 use Rattle.machine.specs.declared.Pair.{Pair}
 use Rattle.machine.specs.declared.Sizes.{Sizes}
 use Rattle.machine.specs.Meaning.Machine.{Machine, Alike, Alignable, IsTrace, IsList}

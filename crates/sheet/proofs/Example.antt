@@ -13,8 +13,8 @@ use Rattle.memory.specs.Meaning.Slices.{ZeroFrom}
 use Rattle.memory.proofs.Computed.{passes}
 use Rattle.netlist.specs.declared.Design.{Design}
 use Rattle.netlist.specs.Meaning.Faults.{Accepted}
-use Rattle.image.specs.Meaning.Format.{bitAt, fieldAt, decoded}
-use Rattle.image.specs.Meaning.Faults.{ImageFault, HeaderFault}
+use Rattle.format.specs.Meaning.Format.{bitAt, fieldAt, decoded}
+use Rattle.format.specs.Meaning.Faults.{ImageFault, HeaderFault}
 use Rattle.image.proofs.Accepted.{image-accepted}
 use Rattle.machine.specs.declared.Pair.{Pair}
 use Rattle.machine.specs.declared.Sizes.{Sizes}

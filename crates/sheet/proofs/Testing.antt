@@ -16,11 +16,11 @@ use Rattle.netlist.specs.Meaning.Limits.{mostInputs, mostLatches, mostOutputs, 
 use Rattle.netlist.specs.Meaning.Gates.{firstOf, secondOf}
 use Rattle.netlist.specs.Meaning.Nets.{cellBase, gateAt}
 use Rattle.netlist.specs.Meaning.Loops.{Reads, Path}
-use Rattle.image.specs.Meaning.Format.{bitAt, fieldAt, versionIn, inputsIn, latchesIn, outputsIn, countIn, netsIn, bitsIn, bytesIn, kindIn, firstIn, secondIn, tailIn, decoded}
-use Rattle.image.specs.Meaning.Faults.{ImageFault}
-use Rattle.image.specs.Working.Scanning.{WithinLimits}
-use Rattle.image.proofs.Refusals.{small, no-3, no-4, no-6, no-7, no-8, clean-4}
-use Rattle.image.proofs.Spelling.{zero-bits}
+use Rattle.format.specs.Meaning.Format.{bitAt, fieldAt, versionIn, inputsIn, latchesIn, outputsIn, countIn, netsIn, bitsIn, bytesIn, kindIn, firstIn, secondIn, tailIn, decoded}
+use Rattle.format.specs.Meaning.Faults.{ImageFault}
+use Rattle.format.specs.Working.Scanning.{WithinLimits}
+use Rattle.format.proofs.Refusals.{small, no-3, no-4, no-6, no-7, no-8, clean-4}
+use Rattle.format.proofs.Spelling.{zero-bits}
 
 -- 1 to 6 find nothing: length and version; sizes and bytes; nets; unread nets
 abbrev pub fieldTests : List ℕ → List Bool

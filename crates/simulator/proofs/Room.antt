@@ -5,8 +5,8 @@ use Rattle.memory.specs.Meaning.Refusals.{Free}
 use Rattle.memory.specs.Meaning.Slices.{Cleared}
 use Rattle.memory.proofs.Refusals.{zero-number}
 use Rattle.netlist.specs.declared.Design.{Design}
-use Rattle.netlist.specs.Meaning.Order.{Plans}
-use Rattle.netlist.specs.Working.Placing.{Sound}
+use Rattle.order.specs.Meaning.Order.{Plans}
+use Rattle.netlist.specs.Working.Sound.{Sound}
 use Rattle.netlist.proofs.Numbers.{sound-of}
 use Rattle.simulator.specs.Meaning.Tables.{TableFault, ZeroTables}
 use Rattle.simulator.specs.Working.Filling.{Fillable}

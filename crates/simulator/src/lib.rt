@@ -1,5 +1,4 @@
 // One clock of a design, and the tables of all its clocks.
-mod eval;
 mod tables;
 
 ghost use lib.ListN.{length};
@@ -17,18 +16,18 @@ pub enum Clocked {
 pub fn clock(d: Design, state: usize, vector: usize) -> Clocked
     ensures { λ r. ⌜ Clocks d state vector r ⌝ }
 {
-    let plan = netlist::order::levelize(d);
+    let plan = order::levelize(d);
     if plan.number != 0 {
         return Clocked::Refused(plan.number);
     }
-    if eval::power(d.latches) <= state {
+    if evaluator::power(d.latches) <= state {
         return Clocked::Refused(14);
     }
-    if eval::power(d.inputs) <= vector {
+    if evaluator::power(d.inputs) <= vector {
         return Clocked::Refused(14);
     }
     let cells = plan.cells;
-    let s = eval::step(d, cells, state, vector);
+    let s = evaluator::step(d, cells, state, vector);
     Clocked::Step {
         next: s.next,
         out: s.out,
@@ -44,7 +43,7 @@ pub enum Tabulated {
 pub fn tabulate(d: Design, next: &mut [u8], out: &mut [u8]) -> Tabulated
     ensures { λ r. ⌜ Tabulates d (length (now (next .entry))) (length (now (out .entry))) r (now (next .exit)) (now (out .exit)) ⌝ }
 {
-    let plan = netlist::order::levelize(d);
+    let plan = order::levelize(d);
     let room = Room {
         next: next.len(),
         out: out.len(),
@@ -58,8 +57,8 @@ pub fn tabulate(d: Design, next: &mut [u8], out: &mut [u8]) -> Tabulated
     let cells = plan.cells;
     tables::fill(d, cells, next, out);
     Tabulated::Table {
-        states: eval::power(d.latches),
-        vectors: eval::power(d.inputs),
+        states: evaluator::power(d.latches),
+        vectors: evaluator::power(d.inputs),
     }
 }
 
@@ -83,8 +82,8 @@ pub fn tabulate_both(
 ) -> TabulatedBoth
     ensures { λ r. ⌜ TabulatesBoth old new (length (now («old_next» .entry))) (length (now («old_out» .entry))) (length (now («new_next» .entry))) (length (now («new_out» .entry))) r (now («old_next» .exit)) (now («old_out» .exit)) (now («new_next» .exit)) (now («new_out» .exit)) ⌝ }
 {
-    let old_plan = netlist::order::levelize(old);
-    let new_plan = netlist::order::levelize(new);
+    let old_plan = order::levelize(old);
+    let new_plan = order::levelize(new);
     let old_room = Room {
         next: old_next.len(),
         out: old_out.len(),
@@ -113,8 +112,8 @@ pub fn tabulate_both(
     let new_cells = new_plan.cells;
     tables::fill(new, new_cells, new_next, new_out);
     TabulatedBoth::Both {
-        old: eval::power(old.latches),
-        new: eval::power(new.latches),
-        vectors: eval::power(old.inputs),
+        old: evaluator::power(old.latches),
+        new: evaluator::power(new.latches),
+        vectors: evaluator::power(old.inputs),
     }
 }

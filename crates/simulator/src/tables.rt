@@ -4,7 +4,7 @@ ghost use Prim.Native.Nat.{_≤_};
 ghost use lib.ListN.{length};
 ghost use Rattle.memory.specs.Meaning.Refusals.{FirstOrNone};
 ghost use Rattle.netlist.specs.Meaning.Faults.{DesignFault};
-ghost use Rattle.netlist.specs.Working.Placing.{Sound};
+ghost use Rattle.netlist.specs.Working.Sound.{Sound};
 ghost use Rattle.simulator.specs.Meaning.Tables.{sizeOf, TableFault, InterfaceFault, BothFault};
 ghost use Rattle.simulator.specs.Working.Filling.{Fillable, FilledTables};
 use netlist::Design;
@@ -70,13 +70,13 @@ pub(crate) fn fill(d: Design, cells: [u16; Image::MOST_CELLS], next: &mut [u8], 
     requires { ⌜ Fillable d cells (now next) (now out) ⌝ }
     ensures { λ _. ⌜ FilledTables d (length (now (next .entry))) (length (now (out .entry))) (sizeOf d) (now (next .exit)) (now (out .exit)) ⌝ }
 {
-    let vectors = crate::eval::power(d.inputs);
+    let vectors = evaluator::power(d.inputs);
     let end = size(d);
     let mut k = 0;
     while k < end {
         let s = k / vectors;
         let v = k % vectors;
-        let t = crate::eval::step(d, cells, s, v);
+        let t = evaluator::step(d, cells, s, v);
         next[k] = t.next;
         out[k] = t.out;
         k += 1;
@@ -88,5 +88,5 @@ fn size(d: Design) -> usize
     requires { ⌜ Sound d ⌝ }
     ensures { λ r. ⌜ (r ≡ sizeOf d) × (r ≤ 65536) ⌝ }
 {
-    crate::eval::power(d.latches) * crate::eval::power(d.inputs)
+    evaluator::power(d.latches) * evaluator::power(d.inputs)
 }

@@ -14,7 +14,7 @@ use Rattle.memory.proofs.Slices.{zero-unique}
 use Rattle.netlist.specs.declared.Design.{Design}
 use Rattle.netlist.specs.Meaning.Faults.{SameDesign}
 use Rattle.netlist.proofs.Same.{same-sym, same-fault}
-use Rattle.image.specs.Meaning.Format.{bytesOf}
+use Rattle.format.specs.Meaning.Format.{bytesOf}
 use Rattle.writer.specs.declared.Written.{Written}
 use Rattle.writer.specs.declared.Written.the-variants.{Bytes, Refused}
 use Rattle.writer.specs.Meaning.Writing.{WriteFault, writeReply, HoldsImage, Writes}

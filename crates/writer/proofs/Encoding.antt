@@ -12,14 +12,14 @@ use lib.Seq.{length-take-le, getD-take}
 use Rattle.numbers.proofs.Digits.{horner-digit, horner-lt}
 use Rattle.memory.specs.Working.Filling.{Filled}
 use Rattle.netlist.specs.declared.Design.{Design}
-use Rattle.netlist.specs.Meaning.Limits.{kindBits, sizeBits, countBits, inputsAt, latchesAt, outputsAt, countAt, netBits, headerBits, cellBits}
+use Rattle.format.specs.Meaning.Layout.{kindBits, sizeBits, countBits, inputsAt, latchesAt, outputsAt, countAt, netBits, headerBits, cellBits}
 use Rattle.netlist.specs.Meaning.Gates.{kindOf, firstOf, secondOf}
 use Rattle.netlist.specs.Meaning.Nets.{gateAt, netsOf}
-use Rattle.netlist.specs.Working.Placing.{Sound}
-use Rattle.image.specs.Meaning.Format.{bitAt, fieldAt, versionIn, inputsIn, latchesIn, outputsIn, countIn, kindIn, firstIn, secondIn, cellAt, tailNet, bitsOf, bytesOf, Encodes}
-use Rattle.image.proofs.Spelling.{field-of, field-lt}
-use Rattle.image.proofs.Gates.{kind-lt}
-use Rattle.image.proofs.Carried.{tail-cases}
+use Rattle.netlist.specs.Working.Sound.{Sound}
+use Rattle.format.specs.Meaning.Format.{bitAt, fieldAt, versionIn, inputsIn, latchesIn, outputsIn, countIn, kindIn, firstIn, secondIn, cellAt, tailNet, bitsOf, bytesOf, Encodes}
+use Rattle.format.proofs.Spelling.{field-of, field-lt}
+use Rattle.format.proofs.Gates.{kind-lt}
+use Rattle.format.proofs.Carried.{tail-cases}
 use Rattle.writer.specs.Meaning.Writing.{HoldsImage}
 use Rattle.writer.specs.Working.Packing.{joined, headerWord, cellWord, Packs, wordBit, wordByte}
 use Rattle.writer.proofs.Joining.{apart}

@@ -11,10 +11,10 @@ use lib.Dec.{lit<, ltb}
 use lib.ListN.{length, getD}
 use Rattle.numbers.specs.Meaning.Bits.{bitOf}
 use Rattle.netlist.specs.declared.Design.{Design}
-use Rattle.netlist.specs.Meaning.Limits.{sizeBits, countBits, kindBits, netBits, headerBits, cellBits, latchesAt, outputsAt, countAt}
+use Rattle.format.specs.Meaning.Layout.{sizeBits, countBits, kindBits, netBits, headerBits, cellBits, latchesAt, outputsAt, countAt}
 use Rattle.netlist.specs.Meaning.Nets.{gateAt}
-use Rattle.image.specs.Meaning.Format.{bitAt, fieldAt, versionIn, inputsIn, latchesIn, outputsIn, countIn, kindIn, firstIn, secondIn, cellAt, tailNet, bitsOf, Encodes}
-use Rattle.image.proofs.Spelling.{field-append, bit-of, bit-in, same-bytes}
+use Rattle.format.specs.Meaning.Format.{bitAt, fieldAt, versionIn, inputsIn, latchesIn, outputsIn, countIn, kindIn, firstIn, secondIn, cellAt, tailNet, bitsOf, Encodes}
+use Rattle.format.proofs.Spelling.{field-append, bit-of, bit-in, same-bytes}
 use Rattle.writer.specs.Working.Packing.{joined, headerWord, cellWord, wordBit}
 
 -- the bits of byte k of the words that two lists hold

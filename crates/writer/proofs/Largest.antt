@@ -7,14 +7,15 @@ use lib.ListN.{getD, replicate}
 use Rattle.memory.proofs.Filling.{all-same}
 use Rattle.netlist.specs.declared.Cell.{Cell}
 use Rattle.netlist.specs.declared.Design.{Design}
-use Rattle.netlist.specs.Meaning.Limits.{mostInputs, mostLatches, mostOutputs, mostCells, mostBytes}
+use Rattle.netlist.specs.Meaning.Limits.{mostInputs, mostLatches, mostOutputs, mostCells}
+use Rattle.format.specs.Meaning.Layout.{mostBytes}
 use Rattle.netlist.specs.Meaning.Gates.{firstOf, secondOf, blankCell}
 use Rattle.netlist.specs.Meaning.Nets.{gateAt}
 use Rattle.netlist.specs.Meaning.Loops.{Reads, Path}
 use Rattle.netlist.specs.Meaning.Faults.{DesignFault, Accepted}
 use Rattle.netlist.proofs.Numbers.{sound-of}
-use Rattle.netlist.proofs.Sizes.{bytes-le-most}
-use Rattle.image.specs.Meaning.Format.{bytesOf}
+use Rattle.format.proofs.Sizes.{bytes-le-most}
+use Rattle.format.specs.Meaning.Format.{bytesOf}
 
 pub largest : (d : Design) → Accepted d → bytesOf d ≤ mostBytes
 largest d a =

@@ -8,7 +8,7 @@ use Rattle.memory.proofs.Refusals.{first-early, first-late}
 use Rattle.netlist.specs.declared.Design.{Design}
 use Rattle.netlist.specs.Meaning.Faults.{DesignFault, Accepted}
 use Rattle.netlist.proofs.Numbers.{fault-bounds, design-numbered}
-use Rattle.image.specs.Meaning.Format.{bytesOf}
+use Rattle.format.specs.Meaning.Format.{bytesOf}
 use Rattle.writer.specs.Meaning.Writing.{WriteFault}
 
 module _ (d : Design) (n : ℕ) where

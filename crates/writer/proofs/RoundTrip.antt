@@ -16,8 +16,8 @@ use Rattle.netlist.specs.Meaning.Faults.{Accepted, SameDesign}
 use Rattle.image.specs.declared.Answer.{Answer}
 use Rattle.image.specs.declared.Answer.the-variants as Answer·variants
 use Rattle.image.specs.declared.Reading.{Reading}
-use Rattle.image.specs.Meaning.Format.{bytesOf, tailNet, decoded, Encodes}
-use Rattle.image.specs.Meaning.Faults.{ImageFault}
+use Rattle.format.specs.Meaning.Format.{bytesOf, tailNet, decoded, Encodes}
+use Rattle.format.specs.Meaning.Faults.{ImageFault}
 use Rattle.image.specs.Meaning.Reading.{ReadsImage, readReply, emptyDesign}
 use Rattle.image.proofs.Accepted.{image-encodes, image-accepted, spelled, clean}
 use Rattle.writer.specs.declared.Written.{Written}

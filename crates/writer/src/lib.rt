@@ -16,7 +16,7 @@ pub fn write(d: Design, image: &mut [u8]) -> Written
     ensures { λ r. ⌜ Writes d (length (now (image .entry))) r (now (image .exit)) ⌝ }
 {
     memory::clear_bytes(image);
-    let number = netlist::fault_of(d);
+    let number = order::fault_of(d);
     if number != 0 {
         return Written::Refused(number);
     }

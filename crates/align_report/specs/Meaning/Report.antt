@@ -18,8 +18,8 @@ use Rattle.io.specs.Counts as io
 use Rattle.memory.specs.Meaning.Refusals.{Free, First}
 use Rattle.memory.specs.Meaning.Slices.{Zero}
 use Rattle.netlist.specs.declared.Design.{Design}
-use Rattle.image.specs.Meaning.Format.{bytesIn, decoded}
-use Rattle.image.specs.Meaning.Faults.{ImageFault, HeaderFault}
+use Rattle.format.specs.Meaning.Format.{bytesIn, decoded}
+use Rattle.format.specs.Meaning.Faults.{ImageFault, HeaderFault}
 use Rattle.machine.specs.declared.Pair.{Pair}
 use Rattle.machine.specs.Meaning.Machine.{Alike, Alignable}
 use Rattle.machine.specs.Meaning.Tables.{Ok, pairs}

@@ -8,7 +8,7 @@ use mathlib.Core.List.{List}
 use lib.ListN.{length, take}
 use Rattle.io.specs.Counts.{Counts}
 use Rattle.memory.specs.Meaning.Orders.{FirstNumber}
-use Rattle.image.specs.Meaning.Format.{Encodes}
+use Rattle.format.specs.Meaning.Format.{Encodes}
 use Rattle.drawing.specs.Meaning.Wires.{drawn}
 use Rattle.aiger.specs.Meaning.Format.{drawingIn}
 use Rattle.aiger.specs.Meaning.Faults.{Part, TextFault, order, numberOf}

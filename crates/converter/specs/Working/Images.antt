@@ -5,7 +5,7 @@ use mathlib.Core.List.{List}
 use lib.ListN.{take}
 use Rattle.io.specs.Counts.{Counts}
 use Rattle.netlist.specs.declared.Design.{Design}
-use Rattle.image.specs.Meaning.Format.{Encodes}
+use Rattle.format.specs.Meaning.Format.{Encodes}
 
 pub record HoldsWhole (d : Design) (l : List ℕ) (n : ℕ) : Type 0 where
   pub image : Encodes d (take n l)

@@ -1,5 +1,5 @@
 -- `read`: the header's number, the lowest of the others, or the design.
-use Rattle.image.proofs.Refusals.{within-limits}
+use Rattle.format.proofs.Refusals.{within-limits}
 use Rattle.image.proofs.Promises.{turned-away, turned-head}
 use borrow.Author.Needs.{needs}
 use Rattle.image.proofs.read.Statement.{statement}

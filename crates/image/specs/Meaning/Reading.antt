@@ -16,8 +16,8 @@ use Rattle.image.specs.declared.Length.the-variants as Length·variants
 use Rattle.image.specs.declared.Answer.{Answer}
 use Rattle.image.specs.declared.Answer.the-variants as Answer·variants
 use Rattle.image.specs.declared.Reading.{Reading}
-use Rattle.image.specs.Meaning.Format.{bytesIn, decoded}
-use Rattle.image.specs.Meaning.Faults.{ImageFault, HeaderFault}
+use Rattle.format.specs.Meaning.Format.{bytesIn, decoded}
+use Rattle.format.specs.Meaning.Faults.{ImageFault, HeaderFault}
 
 -- "the design beside it, if any, is the empty one of `10 00 00 00`"
 abbrev pub emptyDesign : Design

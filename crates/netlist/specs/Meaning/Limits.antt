@@ -1,12 +1,7 @@
--- The sizes of the netlist image, named once.
+-- The limits of the netlist image, named once.
 --   mostInputs, mostLatches, mostOutputs, mostCells   the limits of the header's sizes
---   sizeBits, countBits, kindBits, netBits            how many bits the fields take
---   inputsAt, latchesAt, outputsAt, countAt           where the header's fields stand, behind the version
---   headerBits, cellBits                              bits of the header, and of a cell
---   bitsFor g l o, bytesFor g l o                     bits and bytes of an image of g cells, l flip-flops and o outputs
---   mostBytes                                         bytes of the largest image
 --   AreLimits r                                       r holds these limits
-use Prim.Native.Nat.{ℕ, _+_, _*_, _/_}
+use Prim.Native.Nat.{ℕ}
 use mathlib.Core.Path.{_≡_}
 use Rattle.netlist.specs.declared.Limits.{Limits}
 
@@ -26,53 +21,9 @@ mostOutputs = 8
 abbrev pub mostCells : ℕ
 mostCells = 256
 
--- "The header is version (4 bits, value 1), inputs I (4 bits ..), flip-flops L (4 bits ..), outputs O (4 bits ..), cells G (9 bits ..)"
-abbrev pub sizeBits : ℕ
-sizeBits = 4
-
-abbrev pub countBits : ℕ
-countBits = 9
-
-abbrev pub inputsAt : ℕ
-inputsAt = sizeBits
-
-abbrev pub latchesAt : ℕ
-latchesAt = inputsAt + sizeBits
-
-abbrev pub outputsAt : ℕ
-outputsAt = latchesAt + sizeBits
-
-abbrev pub countAt : ℕ
-countAt = outputsAt + sizeBits
-
-abbrev pub headerBits : ℕ
-headerBits = countAt + countBits
-
--- "G cells (kind 3 bits, first net 9 bits, second net 9 bits)"
-abbrev pub kindBits : ℕ
-kindBits = 3
-
-abbrev pub netBits : ℕ
-netBits = 9
-
-abbrev pub cellBits : ℕ
-cellBits = kindBits + netBits + netBits
-
--- "Then follow G cells .., L nets .., O nets .., and zero bits to the end of the byte"
-abbrev pub bitsFor : ℕ → ℕ → ℕ → ℕ
-bitsFor g l o = headerBits + cellBits * g + netBits * (l + o)
-
-abbrev pub bytesFor : ℕ → ℕ → ℕ → ℕ
-bytesFor g l o = (bitsFor g l o + 7) / 8
-
--- "The largest image has 5,536 bits, 692 bytes"
-abbrev pub mostBytes : ℕ
-mostBytes = bytesFor mostCells mostLatches mostOutputs
-
 -- "These limits belong to the format and are named once, with it": the constants of the code are these
 pub record AreLimits (r : Limits) : Type 0 where
   pub inputs : r .inputs ≡ mostInputs
   pub latches : r .latches ≡ mostLatches
   pub outputs : r .outputs ≡ mostOutputs
   pub cells : r .cells ≡ mostCells
-  pub bytes : r .bytes ≡ mostBytes

@@ -9,7 +9,7 @@ use mathlib.Core.Path.{_≡_}
 use mathlib.Core.List.{List, [], _∷_}
 use Rattle.netlist.specs.Meaning.Gates.{truth}
 use Rattle.simulator.specs.Meaning.Clock.{IsStep}
-use Rattle.image.specs.Meaning.Format.{decoded}
+use Rattle.format.specs.Meaning.Format.{decoded}
 use Rattle.machine.specs.declared.Sizes.{Sizes}
 use Rattle.machine.specs.Meaning.Machine.{Machine}
 use Rattle.machine.specs.Meaning.Rounds.{A, FirstUnchanged}

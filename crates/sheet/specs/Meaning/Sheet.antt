@@ -15,8 +15,8 @@ use mathlib.Core.List.{List, [], _∷_}
 use Rattle.memory.specs.Meaning.Refusals.{Free, First}
 use Rattle.netlist.specs.Meaning.Nets.{outputs}
 use Rattle.simulator.specs.Meaning.Clock.{IsStep}
-use Rattle.image.specs.Meaning.Format.{decoded}
-use Rattle.image.specs.Meaning.Faults.{ImageFault}
+use Rattle.format.specs.Meaning.Format.{decoded}
+use Rattle.format.specs.Meaning.Faults.{ImageFault}
 use Rattle.machine.specs.declared.Sizes.{Sizes}
 use Rattle.machine.specs.Meaning.Machine.{Machine, Alike, Alignable, IsTrace, IsList}
 use Rattle.machine.specs.Meaning.Tables.{pairs, Ok}

@@ -10,7 +10,7 @@ use Rattle.memory.specs.Working.Filling.{Filled}
 use Rattle.netlist.specs.declared.Design.{Design}
 use Rattle.netlist.specs.Meaning.Nets.{vectorsOf, nextState, outputs}
 use Rattle.simulator.specs.Meaning.Tables.{sizeOf}
-use Rattle.simulator.specs.Working.Values.{Evaluable}
+use Rattle.evaluator.specs.Working.Values.{Evaluable}
 
 abbrev pub nextEntry : Design → ℕ → ℕ
 nextEntry d k = nextState d (k / vectorsOf d) (k % vectorsOf d)

@@ -12,7 +12,7 @@ use Rattle.memory.specs.Meaning.Refusals.{Reply, answer, refusal, Keeps}
 use Rattle.memory.specs.Meaning.Slices.{Zero, ZeroFrom}
 use Rattle.netlist.specs.declared.Design.{Design}
 use Rattle.netlist.specs.Meaning.Faults.{DesignFault}
-use Rattle.image.specs.Meaning.Format.{bytesOf, Encodes}
+use Rattle.format.specs.Meaning.Format.{bytesOf, Encodes}
 use Rattle.writer.specs.declared.Written.{Written}
 use Rattle.writer.specs.declared.Written.the-variants.{Bytes, Refused}
 

@@ -14,10 +14,11 @@ use Rattle.numbers.specs.Meaning.Bits.{bitOf, horner}
 use Rattle.memory.specs.Working.Filling.{Filled}
 use Rattle.netlist.specs.declared.Gate.{Gate}
 use Rattle.netlist.specs.declared.Design.{Design}
-use Rattle.netlist.specs.Meaning.Limits.{mostLatches, mostOutputs, mostCells, sizeBits, countBits, netBits, headerBits, cellBits}
+use Rattle.netlist.specs.Meaning.Limits.{mostLatches, mostOutputs, mostCells}
+use Rattle.format.specs.Meaning.Layout.{sizeBits, countBits, netBits, headerBits, cellBits}
 use Rattle.netlist.specs.Meaning.Gates.{kindOf, firstOf, secondOf}
 use Rattle.netlist.specs.Meaning.Nets.{gateAt}
-use Rattle.image.specs.Meaning.Format.{cellAt, tailNet}
+use Rattle.format.specs.Meaning.Format.{cellAt, tailNet}
 
 abbrev pub joined : ℕ → ℕ → ℕ → ℕ
 joined x y w = x * 2 ^ w + y

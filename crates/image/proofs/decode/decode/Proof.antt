@@ -2,7 +2,7 @@
 use native.Mathlib.Omega.{arith}
 use Rattle.memory.proofs.Filling.{all-same}
 use Rattle.netlist.specs.Meaning.Limits.{mostLatches, mostOutputs}
-use Rattle.image.proofs.Decoding.{made}
+use Rattle.format.proofs.Decoding.{made}
 use borrow.Author.Needs.{needs}
 use Rattle.image.proofs.decode.decode.Statement.{statement}
 use Rattle.image.proofs.decode.decode.Tie as tie

@@ -5,7 +5,7 @@ use native.Mathlib.Omega.{arith}
 use lib.ListN.{length}
 use Rattle.memory.specs.Working.Filling.{Filled}
 use Rattle.memory.proofs.Filling.{filled-zero, filled-more}
-use Rattle.image.specs.Meaning.Format.{tailIn}
+use Rattle.format.specs.Meaning.Format.{tailIn}
 use borrow.Author.Needs.{needs}
 use Rattle.image.proofs.decode.take_nets.Statement.{statement}
 use Rattle.image.proofs.decode.take_nets.Tie as tie

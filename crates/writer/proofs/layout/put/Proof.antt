@@ -5,7 +5,7 @@ use native.Mathlib.Omega.{arith}
 use lib.ListN.{length, getD}
 use Rattle.memory.specs.Working.Filling.{Filled}
 use Rattle.memory.proofs.Filling.{filled-zero, filled-more}
-use Rattle.image.specs.Meaning.Format.{bytesOf}
+use Rattle.format.specs.Meaning.Format.{bytesOf}
 use Rattle.writer.specs.Working.Packing.{wordByte}
 use Rattle.writer.proofs.Encoding.{holds-image}
 use borrow.Author.Needs.{needs}

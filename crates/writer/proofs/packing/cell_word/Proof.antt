@@ -1,7 +1,7 @@
 -- `cell_word`: the kind, and behind it both nets.
 use native.Mathlib.Omega.{arith}
 use lib.Dec.{lit≤}
-use Rattle.image.proofs.Gates.{kind-lt}
+use Rattle.format.proofs.Gates.{kind-lt}
 use borrow.Author.Needs.{needs}
 use Rattle.writer.proofs.packing.cell_word.Statement.{statement}
 use Rattle.writer.proofs.packing.cell_word.Tie as tie

@@ -7,7 +7,7 @@ use borrow.Author.Tests.{lt-ltb, le-ltb}
 use Rattle.memory.specs.Working.Filling.{Filled}
 use Rattle.memory.proofs.Filling.{filled-none, filled-more}
 use Rattle.netlist.specs.Meaning.Limits.{mostLatches, mostOutputs}
-use Rattle.image.specs.Meaning.Format.{tailNet}
+use Rattle.format.specs.Meaning.Format.{tailNet}
 use borrow.Author.Needs.{needs}
 use Rattle.writer.proofs.packing.tail_nets.Statement.{statement}
 use Rattle.writer.proofs.packing.tail_nets.Tie as tie

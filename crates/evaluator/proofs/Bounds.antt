@@ -1,0 +1,53 @@
+-- Every value is 0 or 1, so next states are below 2 to the L and outputs below 2 to the O; past the last net a value is 0.
+use Prim.Native.Nat.{ℕ, zero, suc, _+_, _-_, _^_, _<_, _≤_}
+use mathlib.Core.Path.{_≡_, refl}
+use mathlib.Core.Bool.{Bool, true, false, cond}
+use native.Mathlib.Omega.{arith}
+use native.Mathlib.Nat.{mod-lt}
+use borrow.Author.Tests.{le-ltb, ltb-true}
+use lib.Dec.{ltb, lit<}
+use lib.ListN.{getD}
+use Rattle.numbers.specs.Meaning.Bits.{bitOf}
+use Rattle.numbers.proofs.Digits.{horner-lt}
+use Rattle.netlist.specs.declared.Design.{Design}
+use Rattle.netlist.specs.Meaning.Nets.{cellBase, netsOf, gateAt, gateValue, source, settled, value, nextBit, outputBit, nextState, outputs, statesOf}
+use Rattle.evaluator.proofs.Truth.{truth-lt}
+
+pub source-lt : (d : Design) (s v n : ℕ) → source d s v n < 2
+source-lt d s v n = go (ltb n 2) refl (ltb n (2 + d .inputs))
+  where
+    go : (t : Bool) → ltb n 2 ≡ t → (u : Bool) → cond t n (cond u (bitOf (d .inputs) v (n - 2)) (bitOf (d .latches) s (n - (2 + d .inputs)))) < 2
+    go true e u = ltb-true n 2 e
+    go false e true = mod-lt _ (lit< tt)
+    go false e false = mod-lt _ (lit< tt)
+
+settle-lt : (d : Design) (f : ℕ → ℕ) (n : ℕ) → ((m : ℕ) → f m < 2) → (t u : Bool) → cond t (f n) (cond u (gateValue (gateAt d (n - cellBase d)) f) 0) < 2
+settle-lt d f n h true u = h n
+settle-lt d f n h false true = truth-lt _ _ _ (h _) (h _)
+settle-lt d f n h false false = lit< tt
+
+settled-lt : (d : Design) (s v r n : ℕ) → settled d s v r n < 2
+unfolding settled
+settled-lt d s v zero n = go (ltb n (cellBase d))
+  where
+    go : (t : Bool) → cond t (source d s v n) 0 < 2
+    go true = source-lt d s v n
+    go false = lit< tt
+settled-lt d s v (suc r) n = settle-lt d (settled d s v r) n (settled-lt d s v r) (ltb n (cellBase d)) (ltb n (netsOf d))
+
+pub value-lt : (d : Design) (s v n : ℕ) → value d s v n < 2
+value-lt d s v n = settled-lt d s v (d .count) n
+
+pub next-state-lt : (d : Design) (s v : ℕ) → nextState d s v < statesOf d
+next-state-lt d s v = horner-lt (nextBit d s v) (d .latches) (λ j. value-lt d s v (getD (d .«data») j 0))
+
+pub outputs-lt : (d : Design) (s v : ℕ) → outputs d s v < 2 ^ d .outputs
+outputs-lt d s v = horner-lt (outputBit d s v) (d .outputs) (λ j. value-lt d s v (getD (d .shown) j 0))
+
+settled-past : (d : Design) (s v r n : ℕ) → netsOf d ≤ n → settled d s v r n ≡ 0
+unfolding settled
+settled-past d s v zero n h = simp (le-ltb n (cellBase d) (omega arith))
+settled-past d s v (suc r) n h = simp (le-ltb n (cellBase d) (omega arith), le-ltb n (netsOf d) h)
+
+pub value-past : (d : Design) (s v n : ℕ) → netsOf d ≤ n → value d s v n ≡ 0
+value-past d s v n h = settled-past d s v (d .count) n h

@@ -1,0 +1,5 @@
+pub mod Table
+pub mod Truth
+pub mod Bounds
+pub mod Sweep
+pub mod Spreading

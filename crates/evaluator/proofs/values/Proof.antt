@@ -1,0 +1,107 @@
+-- `values`: each cell reads nets that have their value already.
+use Rattle.evaluator.proofs.Sweep.{Swept, swept-none, swept-more, swept-all}
+use borrow.Author.Needs.{needs}
+use native.Mathlib.Omega.{arith}
+use mathlib.Core.Path.{_≡_, subst}
+use Prim.Native.Nat.{ℕ, _-_, _≤_}
+use Rattle.evaluator.proofs.values.Statement.{statement}
+use Rattle.evaluator.proofs.values.Tie as tie
+
+abbrev Inv-loop : tie.InvT-loop
+Inv-loop s v d cells base count vals₀ k₀ vals k = (k ≤ count) × Swept d s v cells k vals
+
+abbrev μ-loop : tie.MeasureT-loop
+μ-loop s v d cells base count vals₀ k₀ vals k = count - k
+
+cast-base : tie.Need-cast-base Inv-loop μ-loop
+cast-base c = search needs
+
+add-base : tie.Need-add-base Inv-loop μ-loop
+add-base c = search needs
+
+cast-base-2 : tie.Need-cast-base-2 Inv-loop μ-loop
+cast-base-2 c = search needs
+
+add-base-2 : tie.Need-add-base-2 Inv-loop μ-loop
+add-base-2 c = search needs
+
+cast-count : tie.Need-cast-count Inv-loop μ-loop
+cast-count c = search needs
+
+sources-requires : tie.Need-sources-requires Inv-loop μ-loop
+sources-requires c κs = search needs
+
+loop-holds : tie.Need-loop-holds Inv-loop μ-loop
+loop-holds c = (search needs, swept-none (c .before .args .t1) (c .before .args .s) (c .before .args .v) (c .before .args .t2) (c .sources .result) (c .sources .ensures))
+
+mul-i : tie.Need-mul-i Inv-loop μ-loop
+mul-i c = search needs
+
+array-read-i : tie.Need-array-read-i Inv-loop μ-loop
+array-read-i c = search needs
+
+cast-i : tie.Need-cast-i Inv-loop μ-loop
+cast-i c = search needs
+
+mul-c : tie.Need-mul-c Inv-loop μ-loop
+mul-c c = omega (arith, c .before .before .before .pre .ordered .runs .cell (c .before .loop .k) (omega arith))
+
+element-copy-out-c : tie.Need-element-copy-out-c Inv-loop μ-loop
+element-copy-out-c c = omega (arith, c .before .before .before .pre .ordered .runs .cell (c .before .loop .k) (omega arith))
+
+gate-value-requires : tie.Need-gate-value-requires Inv-loop μ-loop
+gate-value-requires c κs =
+    let p = c .before .before .before .before .before .pre .sound in
+    let h = c .before .before .before .before .before .pre .ordered .runs .cell (c .before .before .before .loop .k) (omega arith) in
+    (omega (arith, p .firsts _ h), omega (arith, p .seconds _ h), c .before .before .before .loop .inv .1 .bits)
+
+add-vals : tie.Need-add-vals Inv-loop μ-loop
+add-vals c = omega (arith, c .before .before .before .before .before .before .pre .ordered .runs .cell (c .before .before .before .before .loop .k) (omega arith))
+
+array-write-vals : tie.Need-array-write-vals Inv-loop μ-loop
+array-write-vals c = omega (arith, c .before .before .before .before .before .before .pre .ordered .runs .cell (c .before .before .before .before .loop .k) (omega arith))
+
+add-k : tie.Need-add-k Inv-loop μ-loop
+add-k c = search needs
+
+loop-less : tie.Need-loop-less Inv-loop μ-loop
+loop-less c = search needs
+
+loop-again : tie.Need-loop-again Inv-loop μ-loop
+loop-again c =
+    let a = c .before .before .before .before .before .before .args in
+    let l = c .before .before .before .before .loop in
+    (search needs, swept-more (a .t1) (a .s) (a .v) (a .t2) (c .before .before .before .before .before .before .pre) (l .k) (omega arith) (l .vals) (l .inv .1) (c .gate-value .result) (c .gate-value .ensures))
+
+returns : tie.Need-returns Inv-loop μ-loop
+returns c =
+    let a = c .before .before .before .args in
+    let l = c .before .loop in
+    let e : l .k ≡ a .t1 .count = omega arith in
+    swept-all (a .t1) (a .s) (a .v) (a .t2) (l .vals) (c .before .before .before .pre .ordered) (subst (λ (k : ℕ). Swept (a .t1) (a .s) (a .v) (a .t2) k (l .vals)) e (l .inv .1))
+
+pub values-spec : {M : Type 1} → statement M
+values-spec =
+    tie.close
+    (tie.spec
+    Inv-loop
+    μ-loop
+    cast-base
+    add-base
+    cast-base-2
+    add-base-2
+    cast-count
+    sources-requires
+    loop-holds
+    mul-i
+    array-read-i
+    cast-i
+    mul-c
+    element-copy-out-c
+    gate-value-requires
+    add-vals
+    array-write-vals
+    add-k
+    loop-less
+    loop-again
+    returns)

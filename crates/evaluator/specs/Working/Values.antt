@@ -1,0 +1,36 @@
+-- The values of the nets in one clock.
+--   mostNets         nets of the largest design
+--   Evaluable d l    what a clock needs: sizes and nets in range, and an order l of the cells
+--   Holds f l        the list l holds f n for every net n
+--   Readable l n w   the first n nets of the list l are places of w, and w holds bits
+--   Spreads start width x j before after   the first j of the bits of x were put at `start` and behind
+use Prim.Native.Nat.{ℕ, _+_, _<_, _≤_}
+use mathlib.Core.Path.{_≡_}
+use mathlib.Core.List.{List}
+use lib.ListN.{length, getD}
+use Rattle.numbers.specs.Meaning.Bits.{bitOf}
+use Rattle.memory.specs.Working.Filling.{Filled}
+use Rattle.netlist.specs.declared.Design.{Design}
+use Rattle.netlist.specs.Meaning.Limits.{mostInputs, mostLatches, mostCells}
+use Rattle.order.specs.Meaning.Order.{Ordered}
+use Rattle.netlist.specs.Working.Sound.{Sound}
+
+abbrev pub mostNets : ℕ
+mostNets = 2 + mostInputs + mostLatches + mostCells
+
+pub record Evaluable (d : Design) (l : List ℕ) : Type 0 where
+  pub sound : Sound d
+  pub ordered : Ordered d l
+
+pub record Holds (f : ℕ → ℕ) (l : List ℕ) : Type 0 where
+  pub size : length l ≡ mostNets
+  pub at : (n : ℕ) → getD l n 0 ≡ f n
+
+pub record Readable (nets : List ℕ) (n : ℕ) (vals : List ℕ) : Type 0 where
+  pub few : n ≤ 8
+  pub places : (k : ℕ) → k < n → getD nets k 0 < mostNets
+  pub bits : (k : ℕ) → getD vals k 0 < 2
+
+-- whatever f fills `before` below `start` and goes on with the bits of x, fills `after` as far as the first j of these bits
+pub record Spreads (start width x j : ℕ) (before after : List ℕ) : Type 0 where
+  pub fills : (f : ℕ → ℕ) → Filled f 0 mostNets start before → ((i : ℕ) → i < width → f (start + i) ≡ bitOf width x i) → Filled f 0 mostNets (start + j) after

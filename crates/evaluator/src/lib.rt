@@ -1,0 +1,130 @@
+// The values of the nets in one clock.
+//
+// The sources are set first; then one sweep over the cells, in an order in which each reads only nets that have their value already,
+// sets the rest.
+ghost use mathlib.Core.Path.{_≡_};
+ghost use Prim.Native.Nat.{ℕ, _+_, _^_, _<_, _≤_};
+ghost use lib.ListN.{length, getD};
+ghost use Rattle.numbers.specs.Meaning.Bits.{horner};
+ghost use Rattle.memory.specs.Working.Filling.{Filled};
+ghost use Rattle.netlist.specs.Meaning.Gates.{firstOf, secondOf, truth};
+ghost use Rattle.netlist.specs.Meaning.Nets.{cellBase, gateValue, source, value, nextState, outputs};
+ghost use Rattle.netlist.specs.Working.Sound.{Sound};
+ghost use Rattle.evaluator.specs.Working.Values.{mostNets, Evaluable, Holds, Readable, Spreads};
+use netlist::Design;
+use netlist::Gate;
+use netlist::Image;
+
+pub struct Stepped {
+    pub next: u8,
+    pub out: u8,
+}
+
+// One clock of a design with an order of its cells.
+pub fn step(d: Design, cells: [u16; Image::MOST_CELLS], s: usize, v: usize) -> Stepped
+    requires { ⌜ Evaluable d cells ⌝ }
+    ensures { λ r. ⌜ (r .next ≡ nextState d s v) × (r .out ≡ outputs d s v) ⌝ }
+{
+    let vals = values(d, cells, s, v);
+    let data = d.data;
+    let next = word(&data, d.latches as usize, &vals);
+    let shown = d.shown;
+    let out = word(&shown, d.outputs as usize, &vals);
+    Stepped { next, out }
+}
+
+// How many numbers n bits have.
+pub fn power(n: u8) -> usize
+    requires { ⌜ n ≤ 8 ⌝ }
+    ensures { λ r. ⌜ (r ≡ 2 ^ n) × (r ≤ 256) ⌝ }
+{
+    1usize << n
+}
+
+// The value of every net, by one sweep over the cells.
+fn values(d: Design, cells: [u16; Image::MOST_CELLS], s: usize, v: usize) -> [u8; Image::MOST_NETS]
+    requires { ⌜ Evaluable d cells ⌝ }
+    ensures { λ r. ⌜ Holds (value d s v) r ⌝ }
+{
+    let base = 2 + d.inputs as usize + d.latches as usize;
+    let count = d.count as usize;
+    let mut vals = sources(d, s, v);
+    let mut k = 0;
+    while k < count {
+        let i = cells[k] as usize;
+        let c = d.cells[i];
+        let g = c.gate;
+        vals[base + i] = gate_value(g, &vals);
+        k += 1;
+    }
+    vals
+}
+
+// The nets that no cell drives, and 0 beyond.
+fn sources(d: Design, s: usize, v: usize) -> [u8; Image::MOST_NETS]
+    requires { ⌜ Sound d ⌝ }
+    ensures { λ r. ⌜ Filled (source d s v) 0 mostNets (cellBase d) r ⌝ }
+{
+    let inputs = d.inputs as usize;
+    let latches = d.latches as usize;
+    let mut vals = [0u8; Image::MOST_NETS];
+    vals[0] = 0;
+    vals[1] = 1;
+    spread(&mut vals, 2, inputs, v);
+    spread(&mut vals, 2 + inputs, latches, s);
+    vals
+}
+
+// Puts the bits of a number, the most significant first, at the nets from a start on.
+fn spread(vals: &mut [u8; Image::MOST_NETS], start: usize, width: usize, number: usize)
+    requires { ⌜ (start + width ≤ mostNets) × (width ≤ 8) ⌝ }
+    ensures { λ _. ⌜ Spreads start width number width (now (vals .entry)) (now (vals .exit)) ⌝ }
+{
+    let mut j = 0;
+    while j < width {
+        let weight = width - (j + 1);
+        vals[start + j] = ((number >> weight) % 2) as u8;
+        j += 1;
+    }
+}
+
+fn gate_value(g: Gate, vals: &[u8; Image::MOST_NETS]) -> u8
+    requires { ⌜ (firstOf g < mostNets) × (secondOf g < mostNets) × ((n : ℕ) → getD (now vals) n 0 < 2) ⌝ }
+    ensures { λ r. ⌜ r ≡ gateValue g (λ n. getD (now (vals .entry)) n 0) ⌝ }
+{
+    let k = netlist::kind_of(g);
+    let a = vals[netlist::first_of(g) as usize];
+    let b = vals[netlist::second_of(g) as usize];
+    match k {
+        0 => a,
+        1 => 1 - a,
+        _ => two(k, a, b),
+    }
+}
+
+// Four bits a kind from 2 on: bit 2 * a + b is the value at a and b.
+const TABLE: [u8; 6] = [8, 14, 6, 7, 1, 9];
+
+// What a kind that reads two nets makes of their values.
+fn two(kind: u16, a: u8, b: u8) -> u8
+    requires { ⌜ (2 ≤ kind) × (kind < 8) × (a < 2) × (b < 2) ⌝ }
+    ensures { λ r. ⌜ r ≡ truth kind a b ⌝ }
+{
+    let row = TABLE[(kind - 2) as usize];
+    (row >> (2 * a + b)) % 2
+}
+
+// The number that the values of the first n nets of a list spell, the first net most significant.
+fn word(nets: &[u16], n: usize, vals: &[u8; Image::MOST_NETS]) -> u8
+    requires { ⌜ Readable (now nets) n (now vals) ⌝ }
+    ensures { λ r. ⌜ r ≡ horner (λ k. getD (now (vals .entry)) (getD (now (nets .entry)) k 0) 0) n ⌝ }
+{
+    let mut r: u8 = 0;
+    let mut k = 0;
+    while k < n {
+        let net = netlist::net_at(nets, k);
+        r = r * 2 + vals[net];
+        k += 1;
+    }
+    r
+}

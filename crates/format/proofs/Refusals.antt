@@ -1,0 +1,104 @@
+-- Which numbers apply to an image.
+use Prim.Native.Nat.{ℕ, zero, suc, _*_, _<_, _≤_}
+use mathlib.Core.Path.{_≡_}
+use mathlib.Core.List.{List}
+use native.Mathlib.Omega.{arith}
+use native.Mathlib.Nat.{not-suc-le-zero}
+use lib.Dec.{lit<, lit≤}
+use lib.ListN.{length}
+use Rattle.numbers.proofs.Order.{not-lt, le-of-not-lt}
+use Rattle.memory.specs.Meaning.Refusals.{Free, FirstOrNone}
+use Rattle.memory.specs.Working.Lowest.{Numbered}
+use Rattle.memory.proofs.Refusals.{Clean, clean-more, lowest-number, no-number}
+use Rattle.format.specs.Meaning.Format.{bitAt, versionIn, countIn, bitsIn, bytesIn, kindIn, secondIn}
+use Rattle.format.specs.Meaning.Faults.{ImageFault, HeaderFault}
+use Rattle.format.specs.Working.Scanning.{WithinLimits}
+
+-- no number is 0
+pub no-0 : {b : List ℕ} → ImageFault b 0 → ⊥
+no-0 = elim [ ]
+
+-- no number is over 9
+pub small : {b : List ℕ} {n : ℕ} → ImageFault b n → n < 10
+small (ImageFault.short l) = lit< tt
+small (ImageFault.version l) = lit< tt
+small (ImageFault.inputs l) = lit< tt
+small (ImageFault.latches l) = lit< tt
+small (ImageFault.outputs l) = lit< tt
+small (ImageFault.cells l) = lit< tt
+small (ImageFault.ends l) = lit< tt
+small (ImageFault.first i h l) = lit< tt
+small (ImageFault.second i h l) = lit< tt
+small (ImageFault.tail t h l) = lit< tt
+small (ImageFault.unread i h k l) = lit< tt
+small (ImageFault.pad i h k l) = lit< tt
+small (ImageFault.over l) = lit< tt
+small (ImageFault.loop i p) = lit< tt
+
+pub image-numbered : {b : List ℕ} → Numbered (ImageFault b)
+image-numbered zero f = absurd (no-0 f)
+image-numbered (suc n) f = (omega arith, omega (arith, small f))
+
+pub header-numbered : {b : List ℕ} → Numbered (HeaderFault b)
+header-numbered n f = image-numbered n (f .0)
+
+pub refused : {b : List ℕ} (n : ℕ) → ImageFault b n → Clean (ImageFault b) n → FirstOrNone (ImageFault b) n
+refused n p c = lowest-number image-numbered (record { applies = p; lower = c })
+
+-- when each number does not apply
+pub no-1 : {b : List ℕ} → 4 ≤ length b → ImageFault b 1 → ⊥
+no-1 h (ImageFault.short l) = not-lt h l
+
+pub no-2 : {b : List ℕ} → versionIn b ≡ 1 → ImageFault b 2 → ⊥
+no-2 h (ImageFault.version l) = l h
+
+pub no-3 : {b : List ℕ} → WithinLimits b → ImageFault b 3 → ⊥
+no-3 f (ImageFault.inputs l) = not-lt (f .few-inputs) l
+no-3 f (ImageFault.latches l) = not-lt (f .few-latches) l
+no-3 f (ImageFault.outputs l) = not-lt (f .few-outputs) l
+no-3 f (ImageFault.cells l) = not-lt (f .few-cells) l
+
+pub no-4 : {b : List ℕ} → bytesIn b ≤ length b → ImageFault b 4 → ⊥
+no-4 h (ImageFault.ends l) = not-lt h l
+
+pub no-6 : {b : List ℕ} → ((i : ℕ) → i < countIn b → kindIn b i < 2 → secondIn b i ≡ 0) → ImageFault b 6 → ⊥
+no-6 p (ImageFault.unread i h k l) = l (p i h k)
+
+pub no-7 : {b : List ℕ} → ((i : ℕ) → bitsIn b ≤ i → i < 8 * bytesIn b → bitAt b i ≡ 0) → ImageFault b 7 → ⊥
+no-7 p (ImageFault.pad i h k l) = l (p i h k)
+
+pub no-8 : {b : List ℕ} → length b ≤ bytesIn b → ImageFault b 8 → ⊥
+no-8 h (ImageFault.over l) = not-lt h l
+
+-- step by step through the numbers of the header
+pub clean-1 : {b : List ℕ} → Clean (ImageFault b) 1
+clean-1 {b} = clean-more (ImageFault b) 0 (λ m h f. not-suc-le-zero h) no-0
+
+pub clean-2 : {b : List ℕ} → 4 ≤ length b → Clean (ImageFault b) 2
+clean-2 {b} h = clean-more (ImageFault b) 1 clean-1 (no-1 h)
+
+pub clean-3 : {b : List ℕ} → 4 ≤ length b → versionIn b ≡ 1 → Clean (ImageFault b) 3
+clean-3 {b} h v = clean-more (ImageFault b) 2 (clean-2 h) (no-2 v)
+
+pub clean-4 : {b : List ℕ} → 4 ≤ length b → versionIn b ≡ 1 → (ImageFault b 3 → ⊥) → Clean (ImageFault b) 4
+clean-4 {b} h v s = clean-more (ImageFault b) 3 (clean-3 h v) s
+
+-- a number of the header
+pub head : {b : List ℕ} (n : ℕ) → n ≤ 4 → ImageFault b n → Clean (ImageFault b) n → FirstOrNone (HeaderFault b) n
+head n h f c = lowest-number header-numbered (record { applies = (f, h); lower = λ m l g. c m l (g .0) })
+
+pub no-head : {b : List ℕ} → Clean (ImageFault b) 4 → (ImageFault b 4 → ⊥) → FirstOrNone (HeaderFault b) 0
+no-head {b} c e = no-number (λ m f. clean-more (ImageFault b) 4 c e m (omega (arith, f .1)) (f .0))
+
+-- what the header's refusals leave
+module _ {b : List ℕ} (h : Free (HeaderFault b)) where
+  pub clean-5 : Clean (ImageFault b) 5
+  clean-5 m l f = h m (f, omega arith)
+
+  pub within-limits : WithinLimits b
+  within-limits = record {
+    few-inputs = le-of-not-lt (λ l. h 3 (ImageFault.inputs l, lit≤ tt));
+    few-latches = le-of-not-lt (λ l. h 3 (ImageFault.latches l, lit≤ tt));
+    few-outputs = le-of-not-lt (λ l. h 3 (ImageFault.outputs l, lit≤ tt));
+    few-cells = le-of-not-lt (λ l. h 3 (ImageFault.cells l, lit≤ tt));
+  }

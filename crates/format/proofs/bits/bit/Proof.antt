@@ -1,0 +1,46 @@
+-- `bit`: the byte's bit, or 0 past the end.
+use mathlib.Core.Path.{_≡_, sym}
+use Rattle.format.proofs.Spelling.{bit-past}
+use Prim.Native.Nat.{_-_, _%_, _+_}
+use native.Mathlib.Omega.{arith}
+use Rattle.format.specs.Meaning.Format.{bitAt}
+use borrow.Author.Needs.{needs}
+use Rattle.format.proofs.bits.bit.Statement.{statement}
+use Rattle.format.proofs.bits.bit.Tie as tie
+
+shared-slice-read-result : tie.Need-shared-slice-read-result
+shared-slice-read-result c = search needs
+
+sub-result : tie.Need-sub-result
+sub-result c = search needs
+
+cast-result : tie.Need-cast-result
+cast-result c = search needs
+
+shr-result : tie.Need-shr-result
+shr-result c = search needs
+
+cast-result-2 : tie.Need-cast-result-2
+cast-result-2 c = search needs
+
+returns : tie.Need-returns
+unfolding bitAt
+returns c =
+    let i = c .before .before .args .i in
+    let e : 7 - i % 8 ≡ 8 - (i % 8 + 1) = omega arith in
+    rw e
+
+returns-2 : tie.Need-returns-2
+returns-2 c = sym (bit-past _ _ (c .if1 .left))
+
+pub bit-spec : {M : Type 1} → statement M
+bit-spec =
+    tie.close
+    (tie.spec
+    shared-slice-read-result
+    sub-result
+    cast-result
+    shr-result
+    cast-result-2
+    returns
+    returns-2)

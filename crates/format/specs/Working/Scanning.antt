@@ -1,0 +1,33 @@
+-- Scanning an image.
+--   WithinLimits b    the sizes of the header are within the format's limits
+--   UnreadAbove b m   the second net of some cell that does not read it is above m
+--   UnreadBelow b m n each such net of the first n cells is at most m
+--   SpellsCell b i r  r holds the fields of cell i
+use Prim.Native.Nat.{ℕ, _^_, _<_, _≤_}
+use mathlib.Core.Path.{_≡_}
+use mathlib.Core.List.{List}
+use Rattle.netlist.specs.Meaning.Limits.{mostInputs, mostLatches, mostOutputs, mostCells}
+use Rattle.format.specs.Meaning.Layout.{kindBits}
+use Rattle.format.specs.declared.fields.CellFields.{CellFields}
+use Rattle.format.specs.Meaning.Format.{inputsIn, latchesIn, outputsIn, countIn, kindIn, firstIn, secondIn}
+
+pub record WithinLimits (b : List ℕ) : Type 0 where
+  pub few-inputs : inputsIn b ≤ mostInputs
+  pub few-latches : latchesIn b ≤ mostLatches
+  pub few-outputs : outputsIn b ≤ mostOutputs
+  pub few-cells : countIn b ≤ mostCells
+
+pub record UnreadAbove (b : List ℕ) (m : ℕ) : Type 0 where
+  pub cell : ℕ
+  pub within : cell < countIn b
+  pub one-net : kindIn b cell < 2
+  pub above : m < secondIn b cell
+
+abbrev pub UnreadBelow : List ℕ → ℕ → ℕ → Type 0
+UnreadBelow b m n = (i : ℕ) → i < n → kindIn b i < 2 → secondIn b i ≤ m
+
+pub record SpellsCell (b : List ℕ) (i : ℕ) (r : CellFields) : Type 0 where
+  pub kind : r .kind ≡ kindIn b i
+  pub first : r .first ≡ firstIn b i
+  pub second : r .second ≡ secondIn b i
+  pub eight : r .kind < 2 ^ kindBits

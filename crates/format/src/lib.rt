@@ -1,0 +1,47 @@
+// The format of the netlist image: how wide its fields are and where they stand, the reader of them, and what is wrong with an image.
+mod bits;
+pub mod faults;
+pub mod fields;
+
+ghost use mathlib.Core.Path.{_≡_};
+ghost use Rattle.format.specs.Meaning.Layout.{mostBytes};
+use netlist::Image;
+
+// How an image is laid out: the widths and places of its fields, named once.
+pub struct Layout {}
+
+impl Layout {
+    // The header: version, inputs, flip-flops and outputs of one width, then the number of cells.
+    pub const SIZE_BITS: usize = 4;
+
+    pub const COUNT_BITS: usize = 9;
+
+    pub const INPUTS_AT: usize = Layout::SIZE_BITS;
+
+    pub const LATCHES_AT: usize = Layout::INPUTS_AT + Layout::SIZE_BITS;
+
+    pub const OUTPUTS_AT: usize = Layout::LATCHES_AT + Layout::SIZE_BITS;
+
+    pub const COUNT_AT: usize = Layout::OUTPUTS_AT + Layout::SIZE_BITS;
+
+    pub const HEADER_BITS: usize = Layout::COUNT_AT + Layout::COUNT_BITS;
+
+    pub const KIND_BITS: usize = 3;
+
+    pub const NET_BITS: usize = 9;
+
+    pub const CELL_BITS: usize = Layout::KIND_BITS + Layout::NET_BITS + Layout::NET_BITS;
+
+    pub const MOST_BYTES: usize = (Layout::HEADER_BITS
+        + Layout::CELL_BITS * Image::MOST_CELLS
+        + Layout::NET_BITS * (Image::MOST_LATCHES + Image::MOST_OUTPUTS)
+        + 7)
+        / 8;
+
+    // The bytes of the largest image as a number, so that what is believed of the format and the constants are held to each other.
+    pub fn most_bytes() -> usize
+        ensures { λ r. ⌜ r ≡ mostBytes ⌝ }
+    {
+        Layout::MOST_BYTES
+    }
+}

@@ -1,0 +1,2 @@
+pub mod NoLoop
+pub mod Marking

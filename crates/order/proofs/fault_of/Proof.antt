@@ -1,0 +1,13 @@
+-- `fault_of`: the number of the plan.
+use borrow.Author.Needs.{needs}
+use Rattle.order.proofs.fault_of.Statement.{statement}
+use Rattle.order.proofs.fault_of.Tie as tie
+
+levelize-requires : tie.Need-levelize-requires
+levelize-requires c κs = search needs
+
+returns : tie.Need-returns
+returns c = c .levelize .ensures .lowest
+
+pub fault-of-spec : {M : Type 1} → statement M
+fault-of-spec = tie.close (tie.spec levelize-requires returns)
