@@ -12,7 +12,8 @@ use Rattle.machine.specs.Meaning.Tables.{Tables, pairs, oldMachine, newMachine}
 use Rattle.machine.specs.Meaning.Faults.{TablesFault}
 use Rattle.machine.specs.Meaning.Lent.{Lent, leftOf}
 use Rattle.seek.specs.Working.Steps.{Good, Both}
-use Rattle.seek.proofs.Refusals.{fault-most, good, room-enough}
+use Rattle.table_faults.proofs.Refusals.{fault-most}
+use Rattle.seek.proofs.Accepted.{good, room-enough}
 use Rattle.verdict.specs.declared.Verdict.{Verdict}
 use Rattle.verdict.specs.declared.Judged.{Judged}
 use Rattle.verdict.specs.Meaning.Decision.{verdictReply, Decided, CountsBeside, ShortList, short}

@@ -23,7 +23,8 @@ use Rattle.machine.proofs.Written.{written-exists}
 use Rattle.machine.proofs.Counting.{counts-unique}
 use Rattle.machine.specs.Meaning.Faults.{TablesFault}
 use Rattle.machine.specs.Meaning.Lent.{Lent, Left}
-use Rattle.seek.proofs.Refusals.{fault-some, good}
+use Rattle.table_faults.proofs.Refusals.{fault-some}
+use Rattle.seek.proofs.Accepted.{good}
 use Rattle.seek.proofs.Sets.{inside}
 use Rattle.verdict.specs.declared.Verdict.{Verdict}
 use Rattle.verdict.specs.declared.Judged.{Judged}
