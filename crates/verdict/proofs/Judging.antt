@@ -18,7 +18,7 @@ use Rattle.verdict.specs.declared.Verdict.{Verdict}
 use Rattle.verdict.specs.declared.Judged.{Judged}
 use Rattle.verdict.specs.Meaning.Decision.{verdictReply, Decided, CountsBeside, ShortList, short}
 use Rattle.verdict.specs.Meaning.Promise.{JudgeFault, call, list, Judges}
-use Rattle.verdict.specs.Working.Marks.{Mapped, Settled, WithoutCounts, WithCounts}
+use Rattle.verdict.specs.Working.Deciding.{Mapped, Settled, WithoutCounts, WithCounts}
 use Rattle.verdict.proofs.Tallies.{map-counts}
 
 -- a call that is not turned away: tables and scratch of a and b entries serve for both maps
