@@ -14,8 +14,9 @@ use Rattle.machine.specs.Meaning.Lent.{Lent, Left}
 use Rattle.verdict.specs.declared.Verdict.{Verdict}
 use Rattle.verdict.specs.declared.Judged.{Judged}
 use Rattle.verdict.specs.Meaning.Decision.{CountsPairs}
+use Rattle.verdict.specs.Meaning.Decision as D
 use Rattle.compare.specs.Meaning.Designs.{machineOf, sizesOf}
-use Rattle.compare.specs.Meaning.Comparing.{TablesLent, TablesLeft, CompareFault, Compares, ComparesCounting}
+use Rattle.compare.specs.Meaning.Comparing.{TablesLent, TablesLeft, CompareFault, Compared, Compares}
 use Rattle.compare.proofs.Agreement.{states-few, vectors-few}
 use Rattle.report.specs.Working.Tracing.{Small}
 
@@ -27,31 +28,31 @@ module _ {a b : Design} {n : TablesLent} {s : Lent} (free : Free (CompareFault a
   same-inputs = stable (a .inputs) (b .inputs) (λ d. free 10 (CompareFault.tabulating (BothFault.interface (InterfaceFault.other-inputs d))))
 
 -- an answer, by its case
-module _ {a b : Design} {n : TablesLent} {s : Lent} {t : TablesLeft} {e : Left} {r : Judged} (w : ComparesCounting a b n s t e r) where
+module _ {a b : Design} {n : TablesLent} {s : Lent} {t : TablesLeft} {e : Left} {r : Judged} (w : Compares a b n s t e r) where
   abbrev CountsHere : Type 0
   CountsHere = CountsPairs (machineOf a) (machineOf b) (sizesOf a b) (r .alike) (r .alignable)
 
   module _ {m : ℕ} (is : r .verdict ≡ Verdict.Same m) where
-    pub found-same : Compares a b n s t e (Verdict.Same m)
-    found-same = rw is at (w .compares)
+    pub found-same : Free (CompareFault a b n s) × Compared a b t e (D.same m)
+    found-same = rw is at (w .keeps)
 
     pub same-facts : (Accepted a × Accepted b) × CountsHere
-    same-facts = (accepted (found-same .keeps .0), rw is at (w .counts))
+    same-facts = (accepted (found-same .0), rw is at (w .counts))
 
     pub same-fits : m ≤ length (e .written)
-    same-fits = found-same .keeps .1 .decided .fits
+    same-fits = found-same .1 .decided .fits
 
   module _ {p : Pair} {m : ℕ} (is : r .verdict ≡ Verdict.Apart p m) where
-    pub found-apart : Compares a b n s t e (Verdict.Apart p m)
-    found-apart = rw is at (w .compares)
+    pub found-apart : Free (CompareFault a b n s) × Compared a b t e (D.apart p m)
+    found-apart = rw is at (w .keeps)
 
     pub apart-facts : (Accepted a × Accepted b) × CountsHere
-    apart-facts = (accepted (found-apart .keeps .0), rw is at (w .counts))
+    apart-facts = (accepted (found-apart .0), rw is at (w .counts))
 
     -- the pair named is one of few
     small : Small (sizesOf a b) p
     small =
-        let i = found-apart .keeps .1 .decided .sought .lowest .inside in
+        let i = found-apart .1 .decided .sought .lowest .inside in
         let x = apart-facts .0 in
         record {
           few-vectors = vectors-few (x .0);
@@ -60,4 +61,4 @@ module _ {a b : Design} {n : TablesLent} {s : Lent} {t : TablesLeft} {e : Left} 
         }
 
     pub apart-fits : {z : Sizes} → z ≡ sizesOf a b → Small z p × (m ≤ length (e .written))
-    apart-fits same = (rw same small, found-apart .keeps .1 .decided .fits)
+    apart-fits same = (rw same small, found-apart .1 .decided .fits)

@@ -7,6 +7,7 @@ use native.Mathlib.Omega.{arith}
 use lib.ListN.{take}
 use types.Run.{OneOf}
 use denote.Enum.Declared.{tagOf}
+use Rattle.memory.specs.Meaning.Refusals.{Free, Keeps}
 use Rattle.netlist.specs.declared.Design.{Design}
 use Rattle.machine.specs.declared.Pair.{Pair}
 use Rattle.machine.specs.declared.Sizes.{Sizes}
@@ -19,9 +20,10 @@ use Rattle.machine.specs.Meaning.Lent.{Lent, Left}
 use Rattle.verdict.specs.declared.Verdict.{Verdict}
 use Rattle.verdict.specs.declared.Judged.{Judged}
 use Rattle.verdict.specs.Meaning.Decision.{verdictReply}
+use Rattle.verdict.specs.Meaning.Decision as D
 use Rattle.verdict.proofs.Verdict as verdict
 use Rattle.compare.specs.Meaning.Designs.{machineOf, sizesOf}
-use Rattle.compare.specs.Meaning.Comparing.{TablesLent, TablesLeft, tablesLeftOf, Compares, ComparesCounting}
+use Rattle.compare.specs.Meaning.Comparing.{TablesLent, TablesLeft, tablesLeftOf, CompareFault, Compared, ClearedAll, Compares}
 use Rattle.compare.proofs.Agreement.{tables-agree}
 use Rattle.report.specs.declared.Facts.{Facts}
 use Rattle.report.specs.declared.Side.the-variants.{Both}
@@ -34,31 +36,35 @@ use Rattle.align_report.proofs.Comparing.{same-inputs, found-same, foun
 
 module _ {a b : Design} {n : TablesLent} {s : Lent} {t : TablesLeft} {e : Left} {text′ : List ℕ} {r : ℕ} where
   -- neither Same nor Apart
-  pub prints-refused : (v : Verdict) {k : ℕ} → Compares a b n s t e v → OneOf (1 ∷ 2 ∷ []) (tagOf verdict.the-type v) → OneOf (0 ∷ 2 ∷ []) (tagOf verdict.the-type v) → k ≡ numberOf (verdictReply v)
+  pub prints-refused : {j : Judged} {k : ℕ} → Compares a b n s t e j → OneOf (1 ∷ 2 ∷ []) (tagOf verdict.the-type (j .verdict)) → OneOf (0 ∷ 2 ∷ []) (tagOf verdict.the-type (j .verdict)) → k ≡ numberOf (verdictReply (j .verdict))
       → Printed (refusalText Both k) text′ r → ReportsDesigns a b n s (e .written) text′ r
-  prints-refused (Verdict.Same m) w (inl g) h i q = absurd (omega arith)
-  prints-refused (Verdict.Same m) w (inr g) h i q = absurd (omega arith)
-  prints-refused (Verdict.Apart p m) w g (inl h) i q = absurd (omega arith)
-  prints-refused (Verdict.Apart p m) w g (inr h) i q = absurd (omega arith)
-  prints-refused (Verdict.Refused k) w g h i q = record { answers = AnswersDesigns.refused k (w .keeps .0) (w .keeps .1 .list) (rw (← i) (q .is)); counts = q .counts; kept = w .tidy .written }
+  prints-refused {j} {k} c g h i q = go (j .verdict) (c .keeps) g h i
+    where
+      go : (v : Verdict) → Keeps (CompareFault a b n s) (Compared a b t e) (ClearedAll t e) (verdictReply v) → OneOf (1 ∷ 2 ∷ []) (tagOf verdict.the-type v) → OneOf (0 ∷ 2 ∷ []) (tagOf verdict.the-type v) → k ≡ numberOf (verdictReply v)
+          → ReportsDesigns a b n s (e .written) text′ r
+      go (Verdict.Same m) w (inl g) h i = absurd (omega arith)
+      go (Verdict.Same m) w (inr g) h i = absurd (omega arith)
+      go (Verdict.Apart p m) w g (inl h) i = absurd (omega arith)
+      go (Verdict.Apart p m) w g (inr h) i = absurd (omega arith)
+      go (Verdict.Refused k) w g h i = record { answers = AnswersDesigns.refused k (w .0) (w .1 .list) (rw (← i) (q .is)); counts = q .counts; kept = c .tidy .written }
 
-  pub prints-same : {j : Judged} {m : ℕ} {f : Facts} → ComparesCounting a b n s t e j → j .verdict ≡ Verdict.Same m → FactsOf a b f
+  pub prints-same : {j : Judged} {m : ℕ} {f : Facts} → Compares a b n s t e j → j .verdict ≡ Verdict.Same m → FactsOf a b f
       → Printed (sameText f (take m (e .written))) text′ r → ReportsDesigns a b n s (e .written) text′ r
   prints-same c is f q =
       let w = found-same c is in
-      record { answers = AnswersDesigns.found-same (w .keeps .0) _ f _ (w .keeps .1 .decided) (q .is); counts = q .counts; kept = w .tidy .written }
+      record { answers = AnswersDesigns.found-same (w .0) _ f _ (w .1 .decided) (q .is); counts = q .counts; kept = c .tidy .written }
 
 -- tables print what the designs show
 module _ {a b : Design} {n : TablesLent} {s : Lent} {next0 out0 next1 out1 : List ℕ} {e : Left} {j : Judged} {p : Pair} {m : ℕ}
-    (c : ComparesCounting a b n s (tablesLeftOf next0 out0 next1 out1) e j) (is : j .verdict ≡ Verdict.Apart p m) where
+    (c : Compares a b n s (tablesLeftOf next0 out0 next1 out1) e j) (is : j .verdict ≡ Verdict.Apart p m) where
   abbrev t : Tables
   t = bothTables (sizesOf a b) next0 out0 next1 out1
 
-  w : Compares a b n s (tablesLeftOf next0 out0 next1 out1) e (Verdict.Apart p m)
+  w : Free (CompareFault a b n s) × Compared a b (tablesLeftOf next0 out0 next1 out1) e (D.apart p m)
   w = found-apart c is
 
   agree : SameSteps (sizesOf a b) (oldMachine t) (newMachine t) (machineOf a) (machineOf b)
-  agree = tables-agree a b next0 out0 next1 out1 (same-inputs (w .keeps .0)) (w .keeps .1 .old) (w .keeps .1 .new)
+  agree = tables-agree a b next0 out0 next1 out1 (same-inputs (w .0)) (w .1 .old) (w .1 .new)
 
   apart-there : (f : Facts) (l : List ℕ) → In (sizesOf a b) p → Each (Ok (sizesOf a b)) l → apartIn t f p l ≡ apartText (machineOf a) (machineOf b) f p l
   apart-there f l =
@@ -70,10 +76,10 @@ module _ {a b : Design} {n : TablesLent} {s : Lent} {next0 out0 next1 out1 : Lis
   pub prints-apart : {z : Sizes} {f : Facts} {text′ : List ℕ} {r : ℕ} → z ≡ sizesOf a b → FactsOf a b f
       → Printed (apartIn (bothTables z next0 out0 next1 out1) f p (take m (e .written))) text′ r → ReportsDesigns a b n s (e .written) text′ r
   prints-apart {z} {f} {text′} {r} same facts q =
-      let k = w .keeps .1 .decided .sought in
+      let k = w .1 .decided .sought in
       let x = subst (λ (y : Sizes). take r text′ ≡ apartIn (bothTables y next0 out0 next1 out1) f p (take m (e .written))) same (q .is) in
       record {
-        answers = AnswersDesigns.found-apart (w .keeps .0) f facts p m (w .keeps .1 .decided) (x ∙ apart-there f (take m (e .written)) (k .lowest .inside) (k .trace .shortest .has .allowed));
+        answers = AnswersDesigns.found-apart (w .0) f facts p m (w .1 .decided) (x ∙ apart-there f (take m (e .written)) (k .lowest .inside) (k .trace .shortest .has .allowed));
         counts = q .counts;
-        kept = w .tidy .written;
+        kept = c .tidy .written;
       }

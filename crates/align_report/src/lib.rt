@@ -129,7 +129,7 @@ fn write_comparison(
     requires { ⌜ 400 + 12 * length (now list) ≤ length (now text) ⌝ }
     ensures { λ r. ⌜ ReportsDesigns old new (tablesLentOf (length (now («old_next» .entry))) (length (now («old_out» .entry))) (length (now («new_next» .entry))) (length (now («new_out» .entry)))) (lentOf (length (now (depth .entry))) (length (now (reach .entry))) (length (now (list .entry)))) (now (list .exit)) (now (text .exit)) r ⌝ }
 {
-    let judged = compare::compare_counting(
+    let judged = compare::compare(
         old,
         new,
         old_next,

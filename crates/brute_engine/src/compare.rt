@@ -418,7 +418,7 @@ fn ask_verdict(m: Machines, list: &mut [u8], tally: &mut [u64]) -> Judged {
     let old_out = m.old_out;
     let new_next = m.new_next;
     let new_out = m.new_out;
-    let judged = verdict::judge_counting(
+    let judged = verdict::judge(
         &old_next,
         &old_out,
         &new_next,

@@ -1,4 +1,4 @@
--- The promise of `compare_counting`, from those of the tabulating call and of the verdict on its tables.
+-- The promise of `compare`, from those of the tabulating call and of the verdict on its tables.
 use Prim.Native.Nat.{ℕ, _<_, _≤_, min}
 use mathlib.Core.Path.{_≡_, _∙_, refl, subst}
 use mathlib.Core.Logic.{inl, inr}
@@ -8,8 +8,8 @@ use lib.ListN.{length}
 use types.Run.{OneOf}
 use denote.Enum.Declared.{tagOf}
 use Rattle.numbers.proofs.Order.{stable, le-of-not-lt}
-use Rattle.memory.specs.Meaning.Refusals.{Free, Reply, answer, refusal}
-use Rattle.memory.specs.Meaning.Slices.{Cleared}
+use Rattle.memory.specs.Meaning.Refusals.{Free, Keeps, Reply, answer, refusal}
+use Rattle.memory.specs.Meaning.Slices.{Zero, Cleared}
 use Rattle.memory.specs.Working.Lowest.{Numbered}
 use Rattle.memory.proofs.Orders.{first-map}
 use Rattle.memory.proofs.Table.{first-of-lowest, lowest-of-first}
@@ -32,10 +32,10 @@ use Rattle.verdict.specs.declared.Verdict.{Verdict}
 use Rattle.verdict.specs.declared.Judged.{Judged}
 use Rattle.verdict.specs.Meaning.Decision.{Decision, verdictReply, Decided, CountsBeside, ShortList, short}
 use Rattle.verdict.specs.Meaning.Decision as D
-use Rattle.verdict.specs.Meaning.Promise.{JudgeFault, Judges}
+use Rattle.verdict.specs.Meaning.Promise.{JudgeFault}
 use Rattle.verdict.proofs.Verdict as verdict
 use Rattle.compare.specs.Meaning.Designs.{machineOf, sizesOf}
-use Rattle.compare.specs.Meaning.Comparing.{TablesLent, TablesLeft, tablesLeftOf, CompareFault, Compared, TablesKept, Compares, ComparesCounting}
+use Rattle.compare.specs.Meaning.Comparing.{TablesLent, TablesLeft, tablesLeftOf, CompareFault, Compared, ClearedAll, TablesKept, Compares}
 use Rattle.compare.specs.Working.Judging.{KeptOrCleared, JudgedOrCleared}
 use Rattle.compare.proofs.Agreement.{tables-agree, tables-fault}
 
@@ -105,37 +105,30 @@ module _ (a b : Design) (n : TablesLent) (s : Lent) (next0 out0 next1 out1 : Lis
   kept : (t : TablesLeft) → t ≡ tablesLeftOf next0 out0 next1 out1 → TablesKept n t
   kept t q = rw q (record { old-next = size0; old-out = size1; new-next = size2; new-out = size3 })
 
-  compared : (t : TablesLeft) (e : Left) (r : Verdict) → Judges Both s e r → KeptOrCleared Both t (verdictReply r) → Compares a b n s t e r
-  compared t e (Verdict.Same m) j c = record {
-    keeps = (λ k f. j .keeps .0 k (fault-back k f), answered t e (D.same m) c (j .keeps .1));
-    tidy = j .tidy;
-    tables = kept t c;
-  }
-  compared t e (Verdict.Apart p m) j c = record {
-    keeps = (λ k f. j .keeps .0 k (fault-back k f), answered t e (D.apart p m) c (j .keeps .1));
-    tidy = j .tidy;
-    tables = kept t c;
-  }
-  compared t e (Verdict.Refused m) j c = record {
-    keeps = (first-map fault-there fault-back (j .keeps .0), record { old = zero-tables (c .0 .0) (c .0 .1); new = zero-tables (c .1 .0) (c .1 .1); list = j .keeps .1 });
-    tidy = j .tidy;
-    tables = record { old-next = c .0 .0 .size ∙ size0; old-out = c .0 .1 .size ∙ size1; new-next = c .1 .0 .size ∙ size2; new-out = c .1 .1 .size ∙ size3 };
-  }
+  keeps-there : (t : TablesLeft) (e : Left) (x : Reply Decision) → Keeps (JudgeFault Both s) (Decided (oldMachine Both) (newMachine Both) (sizesOf a b) (e .written)) (Zero (e .written)) x
+      → KeptOrCleared Both t x → Keeps (CompareFault a b n s) (Compared a b t e) (ClearedAll t e) x × TablesKept n t
+  keeps-there t e (answer x) k c = ((λ m f. k .0 m (fault-back m f), answered t e x c (k .1)), kept t c)
+  keeps-there t e (refusal m) k c = (
+    (first-map fault-there fault-back (k .0), record { old = zero-tables (c .0 .0) (c .0 .1); new = zero-tables (c .1 .0) (c .1 .1); list = k .1 }),
+    record { old-next = c .0 .0 .size ∙ size0; old-out = c .0 .1 .size ∙ size1; new-next = c .1 .0 .size ∙ size2; new-out = c .1 .1 .size ∙ size3 },
+  )
 
-  counted : (t : TablesLeft) (e : Left) (r : Judged) → JudgedOrCleared Both s t e r → ComparesCounting a b n s t e r
-  counted t e r j = record { compares = compared t e (r .verdict) (j .judges .judges) (j .tables); counts = counts-there agree (verdictReply (r .verdict)) (r .alike) (r .alignable) (j .judges .counts) }
+  compared : (t : TablesLeft) (e : Left) (r : Judged) → JudgedOrCleared Both s t e r → Compares a b n s t e r
+  compared t e r j =
+      let w = keeps-there t e (verdictReply (r .verdict)) (j .judges .keeps) (j .tables) in
+      record { keeps = w .0; tidy = j .judges .tidy; tables = w .1; counts = counts-there agree (verdictReply (r .verdict)) (r .alike) (r .alignable) (j .judges .counts) }
 
 -- the two calls one after the other
 pub compared-both : (a b : Design) (n : TablesLent) (s : Lent) (s0 s1 v : ℕ) (next0 out0 next1 out1 : List ℕ) (t : TablesLeft) (e : Left) (r : Judged)
     → TabulatesBoth a b (n .old-next) (n .old-out) (n .new-next) (n .new-out) (TabulatedBoth.Both s0 s1 v) next0 out0 next1 out1
-    → JudgedOrCleared (bothTables (record { old = s0; new = s1; vectors = v }) next0 out0 next1 out1) s t e r → ComparesCounting a b n s t e r
+    → JudgedOrCleared (bothTables (record { old = s0; new = s1; vectors = v }) next0 out0 next1 out1) s t e r → Compares a b n s t e r
 compared-both a b n s s0 s1 v next0 out0 next1 out1 t e r w j =
     let k = w .keeps .1 in
     let p = k .old-states in
     let q = k .new-states in
     let u = k .vectors in
     let z : _≡_ {A = Sizes} (record { old = s0; new = s1; vectors = v }) (sizesOf a b) = cc in
-    counted a b n s next0 out0 next1 out1 (w .keeps .0) (w .size-next0) (w .size-out0) (w .size-next1) (w .size-out1) (k .old) (k .new) t e r
+    compared a b n s next0 out0 next1 out1 (w .keeps .0) (w .size-next0) (w .size-out0) (w .size-next1) (w .size-out1) (k .old) (k .new) t e r
     (subst (λ (x : Sizes). JudgedOrCleared (bothTables x next0 out0 next1 out1) s t e r) z j)
 
 -- a refusal of the tabulating call: nothing above 12 is lower
@@ -157,17 +150,15 @@ compare-numbered m (CompareFault.list f) = (omega (arith, short-16 f), omega (ar
 pub refused-first : (a b : Design) (n : TablesLent) (s : Lent) (k : ℕ) (next0 out0 next1 out1 depth reach written : List ℕ)
     → TabulatesBoth a b (n .old-next) (n .old-out) (n .new-next) (n .new-out) (TabulatedBoth.Refused k) next0 out0 next1 out1
     → Cleared (s .depth) depth → Cleared (s .reach) reach → Cleared (s .written) written
-    → ComparesCounting a b n s (tablesLeftOf next0 out0 next1 out1) (leftOf depth reach written) (record { verdict = Verdict.Refused k; alike = 0; alignable = 0 })
-refused-first a b n s k next0 out0 next1 out1 depth reach written w x y z = record { compares = refused; counts = (refl, refl) }
+    → Compares a b n s (tablesLeftOf next0 out0 next1 out1) (leftOf depth reach written) (record { verdict = Verdict.Refused k; alike = 0; alignable = 0 })
+refused-first a b n s k next0 out0 next1 out1 depth reach written w x y z = record {
+  keeps = (first-of-lowest compare-numbered (record { applies = CompareFault.tabulating (w .keeps .0 .applies); lower = lower }), record { old = w .keeps .1 .0; new = w .keeps .1 .1; list = z .zero });
+  tidy = record { depth = x; reach = y; written = z .size };
+  tables = record { old-next = w .size-next0; old-out = w .size-out0; new-next = w .size-next1; new-out = w .size-out1 };
+  counts = (refl, refl);
+}
   where
     lower : (m : ℕ) → m < k → CompareFault a b n s m → ⊥
     lower m h (CompareFault.tabulating f) = lowest-of-first (both-numbered a b _ _ _ _) (w .keeps .0) .lower m h f
     lower m h (CompareFault.scratch l) = omega (arith, both-most (w .keeps .0 .applies))
     lower m h (CompareFault.list f) = omega (arith, both-most (w .keeps .0 .applies), short-16 f)
-
-    refused : Compares a b n s (tablesLeftOf next0 out0 next1 out1) (leftOf depth reach written) (Verdict.Refused k)
-    refused = record {
-      keeps = (first-of-lowest compare-numbered (record { applies = CompareFault.tabulating (w .keeps .0 .applies); lower = lower }), record { old = w .keeps .1 .0; new = w .keeps .1 .1; list = z .zero });
-      tidy = record { depth = x; reach = y; written = z .size };
-      tables = record { old-next = w .size-next0; old-out = w .size-out0; new-next = w .size-next1; new-out = w .size-out1 };
-    }

@@ -5,6 +5,8 @@ use mathlib.Core.Path.{_≡_, refl}
 use mathlib.Core.List.{List}
 use native.Mathlib.Omega.{arith}
 use lib.ListN.{length}
+use Rattle.memory.specs.Meaning.Refusals.{Free, Keeps}
+use Rattle.memory.specs.Meaning.Slices.{Zero}
 use Rattle.memory.proofs.Table.{first-numbered}
 use Rattle.netlist.specs.declared.Design.{Design}
 use Rattle.netlist.specs.Meaning.Faults.{Accepted}
@@ -12,16 +14,18 @@ use Rattle.simulator.specs.declared.Tabulated.{Tabulated}
 use Rattle.simulator.specs.declared.TabulatedBoth.{TabulatedBoth}
 use Rattle.simulator.specs.Meaning.Tables.{HoldsDesign, TableFault, InterfaceFault, BothFault, Tabulates, TabulatesBoth}
 use Rattle.machine.specs.declared.Pair.{Pair}
-use Rattle.machine.specs.Meaning.Tables.{bothTables, In}
+use Rattle.machine.specs.Meaning.Tables.{Tables, bothTables, In, oldMachine, newMachine}
+use Rattle.machine.specs.Working.Pairs.{SameSteps}
 use Rattle.machine.proofs.Transfer.{written-there}
 use Rattle.machine.proofs.Verdict.{same-drives-all}
 use Rattle.machine.specs.Meaning.Lent.{Lent, Left}
 use Rattle.verdict.specs.declared.Verdict.{Verdict}
-use Rattle.verdict.specs.Meaning.Decision.{Decided, short}
+use Rattle.verdict.specs.declared.Judged.{Judged}
+use Rattle.verdict.specs.Meaning.Decision.{Decision, verdictReply, Decided, short}
 use Rattle.verdict.specs.Meaning.Decision as D
 use Rattle.verdict.specs.Meaning.Promise.{JudgeFault, Judges}
 use Rattle.compare.specs.Meaning.Designs.{machineOf, sizesOf, Compatible}
-use Rattle.compare.specs.Meaning.Comparing.{TablesLent, tablesLentOf, TablesLeft, CompareFault, Compares}
+use Rattle.compare.specs.Meaning.Comparing.{TablesLent, tablesLentOf, TablesLeft, CompareFault, Compared, ClearedAll, Compares}
 use Rattle.compare.specs.Meaning.Demand.{Driven, Right, EnoughTables, Enough, Demand3}
 use Rattle.compare.specs.Meaning.Demand as R
 use Rattle.compare.proofs.Agreement.{tables-agree, tables-fault}
@@ -35,6 +39,13 @@ apart-right : (a b : Design) (l : List ℕ) (p : Pair) (n : ℕ) → Decided (ma
 apart-right a b l p n w =
     let g = w .sought .lowest in
     R.apart p n (g .inside) (λ d. g .apart (record { list = d .list; leads = d .drives })) (λ q i h. let x = g .lower q i h in record { list = x .list; drives = x .leads })
+
+-- where no number applies there is a decision, and it is right
+kept-right : {P : ℕ → Type 0} (a b : Design) (l : List ℕ) (Answers : Decision → Type 0) (Cleared : Type 0) → Free P → ((x : Decision) → Answers x → Decided (machineOf a) (machineOf b) (sizesOf a b) l x)
+    → (v : Verdict) → Keeps P Answers Cleared (verdictReply v) → Right a b l v
+kept-right a b l Answers Cleared none decided (Verdict.Same n) w = same-right a b l n (decided (D.same n) (w .1))
+kept-right a b l Answers Cleared none decided (Verdict.Apart p n) w = apart-right a b l p n (decided (D.apart p n) (w .1))
+kept-right a b l Answers Cleared none decided (Verdict.Refused n) w = absurd (none n (w .0 .applies))
 
 module _ (a b : Design) (n : TablesLent) (s : Lent) (x : Accepted a) (y : Accepted b) (c : Compatible a b) (t : EnoughTables a b n) (k : Enough a b s) where
   pub no-fault : (m : ℕ) → CompareFault a b n s m → ⊥
@@ -50,41 +61,41 @@ module _ (a b : Design) (n : TablesLent) (s : Lent) (x : Accepted a) (y : Accept
   no-fault m (CompareFault.list (short l w h)) = omega (arith, h, k .list l w)
 
 -- demand 3 of `compare`
-pub demand-3 : (a b : Design) (n : TablesLent) (s : Lent) (t : TablesLeft) (e : Left) (r : Verdict) → Compares a b n s t e r → Demand3 a b n s e r
-demand-3 a b n s t e (Verdict.Same m) h x y c u k = same-right a b (e .written) m (h .keeps .1 .decided)
-demand-3 a b n s t e (Verdict.Apart p m) h x y c u k = apart-right a b (e .written) p m (h .keeps .1 .decided)
-demand-3 a b n s t e (Verdict.Refused m) h x y c u k = absurd (no-fault a b n s x y c u k m (h .keeps .0 .applies))
+pub demand-3 : (a b : Design) (n : TablesLent) (s : Lent) (t : TablesLeft) (e : Left) (r : Judged) → Compares a b n s t e r → Demand3 a b n s e (r .verdict)
+demand-3 a b n s t e r h x y c u k = kept-right a b (e .written) (Compared a b t e) (ClearedAll t e) (no-fault a b n s x y c u k) (λ d w. w .decided) (r .verdict) (h .keeps)
 
 -- demand 3 of `judge`, over tables of the two designs, however they were written
-pub demand-3-tables : (a b : Design) (next0 out0 next1 out1 : List ℕ) (s : Lent) (e : Left) (r : Verdict)
-    → HoldsDesign a next0 out0 → HoldsDesign b next1 out1 → Judges (bothTables (sizesOf a b) next0 out0 next1 out1) s e r
-    → Demand3 a b (tablesLentOf (length next0) (length out0) (length next1) (length out1)) s e r
-demand-3-tables a b next0 out0 next1 out1 s e (Verdict.Same m) h0 h1 j x y c u k =
-    same-right a b (e .written) m (decided-there (tables-agree a b next0 out0 next1 out1 (c .inputs) h0 h1) (e .written) (D.same m) (j .keeps .1))
-demand-3-tables a b next0 out0 next1 out1 s e (Verdict.Apart p m) h0 h1 j x y c u k =
-    apart-right a b (e .written) p m (decided-there (tables-agree a b next0 out0 next1 out1 (c .inputs) h0 h1) (e .written) (D.apart p m) (j .keeps .1))
-demand-3-tables a b next0 out0 next1 out1 s e (Verdict.Refused m) h0 h1 j x y c u k = absurd (none m (j .keeps .0 .applies))
-  where
-    none : (m : ℕ) → JudgeFault (bothTables (sizesOf a b) next0 out0 next1 out1) s m → ⊥
-    none m (JudgeFault.call f) =
-        let w = tables-fault a b next0 out0 next1 out1 (c .inputs) h0 h1 (min (s .depth) (s .reach)) x y (u .old-next) (u .old-out) (u .new-next) (u .new-out) m f in
-        omega (arith, w .1, k .scratch)
-    none m (JudgeFault.list (short l w h)) = omega (arith, h, k .list l (written-there (tables-agree a b next0 out0 next1 out1 (c .inputs) h0 h1) l w))
+module _ (a b : Design) (next0 out0 next1 out1 : List ℕ) where
+  abbrev Both : Tables
+  Both = bothTables (sizesOf a b) next0 out0 next1 out1
+
+  pub demand-3-tables : (s : Lent) (e : Left) (r : Judged) → HoldsDesign a next0 out0 → HoldsDesign b next1 out1 → Judges Both s e r
+      → Demand3 a b (tablesLentOf (length next0) (length out0) (length next1) (length out1)) s e (r .verdict)
+  demand-3-tables s e r h0 h1 j x y c u k = kept-right a b (e .written) (Decided (oldMachine Both) (newMachine Both) (sizesOf a b) (e .written)) (Zero (e .written)) none (decided-there agree (e .written)) (r .verdict) (j .keeps)
+    where
+      agree : SameSteps (sizesOf a b) (oldMachine Both) (newMachine Both) (machineOf a) (machineOf b)
+      agree = tables-agree a b next0 out0 next1 out1 (c .inputs) h0 h1
+
+      none : (m : ℕ) → JudgeFault Both s m → ⊥
+      none m (JudgeFault.call f) =
+          let w = tables-fault a b next0 out0 next1 out1 (c .inputs) h0 h1 (min (s .depth) (s .reach)) x y (u .old-next) (u .old-out) (u .new-next) (u .new-out) m f in
+          omega (arith, w .1, k .scratch)
+      none m (JudgeFault.list (short l w h)) = omega (arith, h, k .list l (written-there agree l w))
 
 -- "For demand 3 the tables at the verdict's entry are those that the tabulating call writes for the two designs, whether one call for
 -- both or one for each; each S given to the verdict is 2 to that design's L, and V is 2 to the I". The tabulating call cannot refuse.
-pub demand-3-both : (a b : Design) (n : TablesLent) (t : TabulatedBoth) (next0 out0 next1 out1 : List ℕ) (s : Lent) (e : Left) (r : Verdict)
+pub demand-3-both : (a b : Design) (n : TablesLent) (t : TabulatedBoth) (next0 out0 next1 out1 : List ℕ) (s : Lent) (e : Left) (r : Judged)
     → TabulatesBoth a b (n .old-next) (n .old-out) (n .new-next) (n .new-out) t next0 out0 next1 out1
-    → Judges (bothTables (sizesOf a b) next0 out0 next1 out1) s e r → Demand3 a b n s e r
+    → Judges (bothTables (sizesOf a b) next0 out0 next1 out1) s e r → Demand3 a b n s e (r .verdict)
 demand-3-both a b n (TabulatedBoth.Both s0 s1 v) next0 out0 next1 out1 s e r w j x y c u k =
     demand-3-tables a b next0 out0 next1 out1 s e r (w .keeps .1 .old) (w .keeps .1 .new) j x y c
     (record { old-next = omega (arith, u .old-next, w .size-next0); old-out = omega (arith, u .old-out, w .size-out0); new-next = omega (arith, u .new-next, w .size-next1); new-out = omega (arith, u .new-out, w .size-out1) }) k
 demand-3-both a b n (TabulatedBoth.Refused m) next0 out0 next1 out1 s e r w j x y c u k =
     absurd (no-fault a b n s x y c u k m (CompareFault.tabulating (w .keeps .0 .applies)))
 
-pub demand-3-each : (a b : Design) (n : TablesLent) (t0 t1 : Tabulated) (next0 out0 next1 out1 : List ℕ) (s : Lent) (e : Left) (r : Verdict)
+pub demand-3-each : (a b : Design) (n : TablesLent) (t0 t1 : Tabulated) (next0 out0 next1 out1 : List ℕ) (s : Lent) (e : Left) (r : Judged)
     → Tabulates a (n .old-next) (n .old-out) t0 next0 out0 → Tabulates b (n .new-next) (n .new-out) t1 next1 out1
-    → Judges (bothTables (sizesOf a b) next0 out0 next1 out1) s e r → Demand3 a b n s e r
+    → Judges (bothTables (sizesOf a b) next0 out0 next1 out1) s e r → Demand3 a b n s e (r .verdict)
 demand-3-each a b n (Tabulated.Table s0 v) (Tabulated.Table s1 w) next0 out0 next1 out1 s e r p q j x y c u k =
     demand-3-tables a b next0 out0 next1 out1 s e r (p .keeps .1 .holds) (q .keeps .1 .holds) j x y c
     (record { old-next = omega (arith, u .old-next, p .size-next); old-out = omega (arith, u .old-out, p .size-out); new-next = omega (arith, u .new-next, q .size-next); new-out = omega (arith, u .new-out, q .size-out) }) k
@@ -107,5 +118,5 @@ driven-same a b l _ (R.same n h all) d = (n, refl)
 driven-same a b l _ (R.apart q n i g lower) d = absurd (d q i g)
 
 -- 0 stands in no order, so a refusal by 0 keeps no promise
-pub refused-0-shut : (a b : Design) (n : TablesLent) (s : Lent) (t : TablesLeft) (e : Left) → Compares a b n s t e (Verdict.Refused 0) → ⊥
-refused-0-shut a b n s t e h = omega (arith, first-numbered (h .keeps .0) .0)
+pub refused-0-shut : (a b : Design) (n : TablesLent) (s : Lent) (t : TablesLeft) (e : Left) (r : Judged) → r .verdict ≡ Verdict.Refused 0 → Compares a b n s t e r → ⊥
+refused-0-shut a b n s t e r is h = omega (arith, first-numbered ((rw is at (h .keeps)) .0) .0)

@@ -19,12 +19,11 @@ use Rattle.machine.specs.Meaning.Lent.{Lent, Left, Tidy}
 use Rattle.machine.specs.Working.Pairs.{Closed}
 use Rattle.machine.proofs.Lent.{same-left}
 use Rattle.machine.proofs.Transfer.{same-back, same-closed}
-use Rattle.verdict.specs.declared.Verdict.{Verdict}
 use Rattle.verdict.specs.declared.Judged.{Judged}
 use Rattle.verdict.specs.Meaning.Decision.{Decision, verdictReply, Decided, CountsBeside, ShortList}
-use Rattle.verdict.proofs.Laws.{decision-unique, list-unique, reply-one, counts-one}
+use Rattle.verdict.proofs.Laws.{decision-unique, list-unique, reply-one, judged-one}
 use Rattle.compare.specs.Meaning.Designs.{machineOf, sizesOf}
-use Rattle.compare.specs.Meaning.Comparing.{TablesLent, TablesLeft, CompareFault, Compared, ClearedAll, TablesKept, Compares, ComparesCounting}
+use Rattle.compare.specs.Meaning.Comparing.{TablesLent, TablesLeft, CompareFault, Compared, ClearedAll, TablesKept, Compares}
 use Rattle.compare.proofs.Agreement.{tables-agree}
 
 module _ (a b : Design) (n : TablesLent) (s : Lent) (t u : TablesLeft) (e f : Left) (i : TablesKept n t) (j : TablesKept n u) (x : Tidy s e) (y : Tidy s f) where
@@ -61,22 +60,14 @@ module _ (a b : Design) (n : TablesLent) (s : Lent) (t u : TablesLeft) (e f : Le
       same-all (same-tables (cleared-unique (old t) (old u) (i .old-next ∙ sym (j .old-next)) (i .old-out ∙ sym (j .old-out)) (g .old) (h .old)) (cleared-unique (new t) (new u) (i .new-next ∙ sym (j .new-next)) (i .new-out ∙ sym (j .new-out)) (g .new) (h .new)))
       (zero-unique (e .written) (f .written) long (g .list) (h .list))
 
--- the answer, the tables and every other slice are determined by the designs and the lengths of the slices
-pub compares-unique : (a b : Design) (n : TablesLent) (s : Lent) (t u : TablesLeft) (e f : Left) (q r : Verdict)
+-- the answer with its counts, the tables and every other slice are determined by the designs and the lengths of the slices
+pub compares-unique : (a b : Design) (n : TablesLent) (s : Lent) (t u : TablesLeft) (e f : Left) (q r : Judged)
     → Compares a b n s t e q → Compares a b n s u f r → (q ≡ r) × (_≡_ {A = TablesLeft × Left} (t, e) (u, f))
 compares-unique a b n s t u e f q r g h =
     let w = kept-unique (CompareFault a b n s) (λ (l : TablesLeft × Left). Compared a b (l .0) (l .1)) (λ (l : TablesLeft × Left). ClearedAll (l .0) (l .1)) (t, e) (u, f)
     (answers-unique a b n s t u e f (g .tables) (h .tables) (g .tidy) (h .tidy)) (refusals-unique a b n s t u e f (g .tables) (h .tables) (g .tidy) (h .tidy))
-    (verdictReply q) (verdictReply r) (g .keeps) (h .keeps) in
-    (reply-one q r (w .0), w .1)
-
--- and so are the counts
-pub compared-unique : (a b : Design) (n : TablesLent) (s : Lent) (t u : TablesLeft) (e f : Left) (q r : Judged)
-    → ComparesCounting a b n s t e q → ComparesCounting a b n s u f r → q ≡ r
-compared-unique a b n s t u e f q r g h =
-    let v = compares-unique a b n s t u e f (q .verdict) (r .verdict) (g .compares) (h .compares) .0 in
-    let k = counts-one (machineOf a) (machineOf b) (sizesOf a b) (verdictReply (r .verdict)) (subst (λ (x : Verdict). CountsBeside (machineOf a) (machineOf b) (sizesOf a b) (verdictReply x) (q .alike) (q .alignable)) v (g .counts)) (h .counts) in
-    λ i. record { verdict = v i; alike = k .0 i; alignable = k .1 i }
+    (verdictReply (q .verdict)) (verdictReply (r .verdict)) (g .keeps) (h .keeps) in
+    (judged-one (machineOf a) (machineOf b) (sizesOf a b) (reply-one (q .verdict) (r .verdict) (w .0)) (g .counts) (h .counts), w .1)
 
 -- "A design's entries beyond G, L and O count for nothing"
 same-machine : (a c : Design) → SameDesign a c → machineOf a ≡ machineOf c
@@ -97,19 +88,13 @@ module _ (a b c d : Design) (p : SameDesign a c) (q : SameDesign b d) where
   compare-fault n s k (CompareFault.scratch h) = CompareFault.scratch (there (λ m0 m1 z. min (s .depth) (s .reach) < pairs z) h)
   compare-fault n s k (CompareFault.list f) = CompareFault.list (there (λ m0 m1 z. ShortList m0 m1 z (s .written) k) f)
 
-pub same-comparison : (a b c d : Design) → SameDesign a c → SameDesign b d → (n : TablesLent) (s : Lent) (t : TablesLeft) (e : Left) (r : Verdict)
+pub same-comparison : (a b c d : Design) → SameDesign a c → SameDesign b d → (n : TablesLent) (s : Lent) (t : TablesLeft) (e : Left) (r : Judged)
     → Compares a b n s t e r → Compares c d n s t e r
 same-comparison a b c d p q n s t e r h = record {
   keeps = keeps-map (compare-fault a b c d p q n s) (compare-fault c d a b (same-sym p) (same-sym q) n s)
       (λ x w. record { decided = there a b c d p q (λ m0 m1 z. Decided m0 m1 z (e .written) x) (w .decided); old = same-holds a c p _ _ (w .old); new = same-holds b d q _ _ (w .new) })
-      (λ w. w) (verdictReply r) (h .keeps);
+      (λ w. w) (verdictReply (r .verdict)) (h .keeps);
   tidy = h .tidy;
   tables = h .tables;
-}
-
-pub same-counting : (a b c d : Design) → SameDesign a c → SameDesign b d → (n : TablesLent) (s : Lent) (t : TablesLeft) (e : Left) (r : Judged)
-    → ComparesCounting a b n s t e r → ComparesCounting c d n s t e r
-same-counting a b c d p q n s t e r h = record {
-  compares = same-comparison a b c d p q n s t e (r .verdict) (h .compares);
   counts = there a b c d p q (λ m0 m1 z. CountsBeside m0 m1 z (verdictReply (r .verdict)) (r .alike) (r .alignable)) (h .counts);
 }

@@ -2,7 +2,7 @@
 ghost use lib.ListN.{length};
 ghost use Rattle.machine.specs.Meaning.Tables.{bothTables};
 ghost use Rattle.machine.specs.Meaning.Lent.{lentOf, leftOf};
-ghost use Rattle.compare.specs.Meaning.Comparing.{tablesLentOf, tablesLeftOf, Compares, ComparesCounting};
+ghost use Rattle.compare.specs.Meaning.Comparing.{tablesLentOf, tablesLeftOf, Compares};
 ghost use Rattle.compare.specs.Working.Judging.{JudgedOrCleared};
 use machine::Sizes;
 use netlist::Design;
@@ -10,7 +10,7 @@ use simulator::TabulatedBoth;
 use verdict::Judged;
 use verdict::Verdict;
 
-// The verdict on two designs, with its list or trace, and the tables of both.
+// The verdict on two designs, with its list or trace and the counts of alike and of alignable pairs, and the tables of both.
 pub fn compare(
     old: Design,
     new: Design,
@@ -21,36 +21,8 @@ pub fn compare(
     depth: &mut [u16],
     reach: &mut [u16],
     list: &mut [u8],
-) -> Verdict
-    ensures { λ r. ⌜ Compares old new (tablesLentOf (length (now («old_next» .entry))) (length (now («old_out» .entry))) (length (now («new_next» .entry))) (length (now («new_out» .entry)))) (lentOf (length (now (depth .entry))) (length (now (reach .entry))) (length (now (list .entry)))) (tablesLeftOf (now («old_next» .exit)) (now («old_out» .exit)) (now («new_next» .exit)) (now («new_out» .exit))) (leftOf (now (depth .exit)) (now (reach .exit)) (now (list .exit))) r ⌝ }
-{
-    let judged = compare_counting(
-        old,
-        new,
-        old_next,
-        old_out,
-        new_next,
-        new_out,
-        depth,
-        reach,
-        list,
-    );
-    judged.verdict
-}
-
-// The verdict on two designs, with its list or trace and the counts of alike and of alignable pairs, and the tables of both.
-pub fn compare_counting(
-    old: Design,
-    new: Design,
-    old_next: &mut [u8],
-    old_out: &mut [u8],
-    new_next: &mut [u8],
-    new_out: &mut [u8],
-    depth: &mut [u16],
-    reach: &mut [u16],
-    list: &mut [u8],
 ) -> Judged
-    ensures { λ r. ⌜ ComparesCounting old new (tablesLentOf (length (now («old_next» .entry))) (length (now («old_out» .entry))) (length (now («new_next» .entry))) (length (now («new_out» .entry)))) (lentOf (length (now (depth .entry))) (length (now (reach .entry))) (length (now (list .entry)))) (tablesLeftOf (now («old_next» .exit)) (now («old_out» .exit)) (now («new_next» .exit)) (now («new_out» .exit))) (leftOf (now (depth .exit)) (now (reach .exit)) (now (list .exit))) r ⌝ }
+    ensures { λ r. ⌜ Compares old new (tablesLentOf (length (now («old_next» .entry))) (length (now («old_out» .entry))) (length (now («new_next» .entry))) (length (now («new_out» .entry)))) (lentOf (length (now (depth .entry))) (length (now (reach .entry))) (length (now (list .entry)))) (tablesLeftOf (now («old_next» .exit)) (now («old_out» .exit)) (now («new_next» .exit)) (now («new_out» .exit))) (leftOf (now (depth .exit)) (now (reach .exit)) (now (list .exit))) r ⌝ }
 {
     let tabulated = simulator::tabulate_both(old, new, old_next, old_out, new_next, new_out);
     match tabulated {
@@ -101,7 +73,7 @@ fn judge_or_clear(
 ) -> Judged
     ensures { λ r. ⌜ JudgedOrCleared (bothTables sizes (now («old_next» .entry)) (now («old_out» .entry)) (now («new_next» .entry)) (now («new_out» .entry))) (lentOf (length (now (depth .entry))) (length (now (reach .entry))) (length (now (list .entry)))) (tablesLeftOf (now («old_next» .exit)) (now («old_out» .exit)) (now («new_next» .exit)) (now («new_out» .exit))) (leftOf (now (depth .exit)) (now (reach .exit)) (now (list .exit))) r ⌝ }
 {
-    let judged = verdict::judge_counting(
+    let judged = verdict::judge(
         old_next,
         old_out,
         new_next,

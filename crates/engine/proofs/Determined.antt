@@ -21,7 +21,7 @@ use Rattle.machine.proofs.Rounds.{round-unique}
 use Rattle.machine.specs.Working.Pairs.{pairAt}
 use Rattle.machine.proofs.Numbers.{pairAt-in, at-pair}
 use Rattle.machine.specs.Meaning.Faults.{TablesFault}
-use Rattle.seek.proofs.Refusals.{fault-some}
+use Rattle.table_faults.proofs.Refusals.{fault-some}
 use Rattle.engine.specs.declared.MappedAlike.{MappedAlike}
 use Rattle.engine.specs.declared.MappedAlignable.{MappedAlignable}
 use Rattle.machine.specs.Meaning.Lent.{Lent, Left, Tidy, Listed}

@@ -16,7 +16,7 @@ use Rattle.machine.specs.declared.Pair.{Pair}
 use Rattle.machine.specs.Meaning.Tables.{Tables, In}
 use Rattle.machine.specs.Meaning.Faults.{TablesFault}
 use Rattle.seek.specs.Working.Steps.{Outcome, missing, short, steps}
-use Rattle.seek.proofs.Refusals.{fault-most, tables-numbered}
+use Rattle.table_faults.proofs.Refusals.{fault-most, tables-numbered}
 use Rattle.machine.specs.Meaning.Lent.{Lent, Listed}
 use Rattle.engine.specs.Meaning.Pairs.{foundReply, StateFault, PairFault}
 

@@ -1,7 +1,7 @@
 -- The loop that builds the verdict's list.
 use mathlib.Core.Path.{_≡_, refl, sym, ap, _∙_, subst}
 use mathlib.Core.Bool.{Bool, true, false}
-use mathlib.Core.List.{List, [], _++_}
+use mathlib.Core.List.{List, [], _∷_, _++_}
 use Prim.Native.Nat.{ℕ, _<_, _≤_, _+_, _-_}
 use native.Mathlib.Omega.{arith}
 use lib.Dec.{eqb}
@@ -17,7 +17,7 @@ use Rattle.machine.specs.Meaning.Lists.{Each, run}
 use Rattle.machine.specs.Meaning.Machine.{Machine}
 use Rattle.machine.specs.Meaning.Tables.{Tables, pairs, number, at, In, Ok, oldMachine, newMachine, AlikeIn}
 use Rattle.machine.specs.Meaning.Verdict.{May, LowestOpen, Rounds, done, more}
-use Rattle.machine.specs.Working.Pairs.{pairAt}
+use Rattle.machine.specs.Working.Pairs.{pairAt, stepIn}
 use Rattle.machine.proofs.Lists.{each-append}
 use Rattle.machine.proofs.Numbers.{same-pair, pair-number, number-in, pairAt-in, number-pair}
 use Rattle.machine.proofs.Finding.{Test}
@@ -27,8 +27,9 @@ use Rattle.machine.proofs.Ending.{unaligned, unaligned-falls, rounds-exist}
 use Rattle.search.specs.Working.{LowestBelow}
 use Rattle.seek.specs.Working.Steps.{Outcome, short, steps}
 use Rattle.seek.proofs.Sets.{inside, alike-of-zero, zero-of-alike}
-use Rattle.verdict.specs.Working.Marks.{AllAlignIn, SameIn, Image, Leading, OpenAt, Mapped, Added, Appended, added, full}
-use Rattle.verdict.proofs.Images.{run-pair, below-all, After, after-none, after-more, run-under}
+use Rattle.marks.specs.Working.{Leading, Successors}
+use Rattle.marks.proofs.Moving.{After, after-none, after-more, run-under}
+use Rattle.verdict.specs.Working.Deciding.{AllAlignIn, SameIn, OpenAt, Mapped, Added, Appended, added, full}
 use Rattle.verdict.proofs.Parts.{slice-at}
 
 module _ (t : Tables) where
@@ -40,6 +41,15 @@ module _ (t : Tables) where
 
   abbrev m1 : Machine
   m1 = newMachine t
+
+  -- both designs run side by side
+  run-pair : (p : Pair) (l : List ℕ) → run (stepIn t) p l ≡ record { old = run (m0 .next) (p .old) l; new = run (m1 .next) (p .new) l }
+  run-pair p [] = refl
+  run-pair p (v ∷ l) = run-pair (stepIn t p v) l
+
+  below-all : (l : List ℕ) → Each (Ok z) l → Each (λ v. v < z .vectors) l
+  below-all [] o = tt
+  below-all (v ∷ l) o = (o .0 .below, below-all l (o .1))
 
   -- the loop's state: the first len vectors are the rounds so far, and the marks say in which states each design may be
   pub record Aligning (list₀ list : List ℕ) (len : ℕ) (marks0 marks1 : List Bool) : Type 0 where
@@ -81,11 +91,11 @@ module _ (t : Tables) where
           record {
             from = record { old = x .0; new = y .0 };
             inside = record { in-old = x .1; in-new = y .1 };
-            arrives = run-pair t (record { old = x .0; new = y .0 }) (take len list) ∙ same-pair (x .2) (y .2);
+            arrives = run-pair (record { old = x .0; new = y .0 }) (take len list) ∙ same-pair (x .2) (y .2);
           }
 
       marked : (q : Pair) → May m0 m1 z (take len list) q → (getD marks0 (q .old) false ≡ true) × (getD marks1 (q .new) false ≡ true)
-      marked q y = subst (λ (x : Pair). (getD marks0 (x .old) false ≡ true) × (getD marks1 (x .new) false ≡ true)) (sym (run-pair t (y .from) (take len list)) ∙ y .arrives) (w .after0 .forth (y .from .old) (y .inside .in-old), w .after1 .forth (y .from .new) (y .inside .in-new))
+      marked q y = subst (λ (x : Pair). (getD marks0 (x .old) false ≡ true) × (getD marks1 (x .new) false ≡ true)) (sym (run-pair (y .from) (take len list)) ∙ y .arrives) (w .after0 .forth (y .from .old) (y .inside .in-old), w .after1 .forth (y .from .new) (y .inside .in-new))
 
       may-inside : (q : Pair) → May m0 m1 z (take len list) q → In z q
       may-inside q y = may-in m0 m1 z (inside t (m .good)) (take len list) (w .ok) q y
@@ -136,18 +146,18 @@ module _ (t : Tables) where
               added-fits = omega (arith, a .fits, a .long)
 
               pub part-below : (j : ℕ) → len ≤ j → j < len + k → getD on j 0 < z .vectors
-              part-below = slice-at (λ v. v < z .vectors) on len (len + k) added-fits (rw (a .slices) (below-all t (a .part) (a .its-list .shortest .has .allowed)))
+              part-below = slice-at (λ v. v < z .vectors) on len (len + k) added-fits (rw (a .slices) (below-all (a .part) (a .its-list .shortest .has .allowed)))
 
               pub falls : unaligned m0 m1 z (λ p. eqb (at z depth p) 0) (take (len + k) on) < unaligned m0 m1 z (λ p. eqb (at z depth p) 0) (take len list)
               falls = rw (a .joins) (unaligned-falls m0 m1 z (inside t (m .good)) (λ p. eqb (at z depth p) 0) tells (take len list) (a .part) (w .ok) p (lowest .may) (lowest .open′) (a .its-list .shortest .has))
 
-              pub aligning-more : {next0 next1 : List Bool} → Image (λ x. run (m0 .next) x (slice len (len + k) on)) (z .old) marks0 next0 → Image (λ x. run (m1 .next) x (slice len (len + k) on)) (z .new) marks1 next1 → Aligning list₀ on (len + k) next0 next1
+              pub aligning-more : {next0 next1 : List Bool} → Successors (λ x. run (m0 .next) x (slice len (len + k) on)) (z .old) marks0 next0 → Successors (λ x. run (m1 .next) x (slice len (len + k) on)) (z .new) marks1 next1 → Aligning list₀ on (len + k) next0 next1
               aligning-more {next0} {next1} i0 i1 = record {
                 long = a .long ∙ w .long;
                 under = added-fits;
                 ok = rw (a .joins) (each-append (Ok z) (take len list) (a .part) (w .ok) (a .its-list .shortest .has .allowed));
-                after0 = rw (a .joins) (after-more (m0 .next) (z .old) (take len list) (a .part) marks0 next0 (λ s b. run-under leading-old s (take len list) b (below-all t (take len list) (w .ok))) (w .after0) (rw (a .slices) at i0));
-                after1 = rw (a .joins) (after-more (m1 .next) (z .new) (take len list) (a .part) marks1 next1 (λ s b. run-under leading-new s (take len list) b (below-all t (take len list) (w .ok))) (w .after1) (rw (a .slices) at i1));
+                after0 = rw (a .joins) (after-more (m0 .next) (z .old) (take len list) (a .part) marks0 next0 (λ s b. run-under leading-old s (take len list) b (below-all (take len list) (w .ok))) (w .after0) (rw (a .slices) at i0));
+                after1 = rw (a .joins) (after-more (m1 .next) (z .new) (take len list) (a .part) marks1 next1 (λ s b. run-under leading-new s (take len list) b (below-all (take len list) (w .ok))) (w .after1) (rw (a .slices) at i1));
                 joins = rw (a .joins) (λ r x. w .joins r (more p lowest (a .part) (a .its-list) x));
                 rest = λ j l. a .rest j l ∙ w .rest j (omega arith);
               }

@@ -25,7 +25,7 @@ use Rattle.seek.specs.Working.Steps as E
 use Rattle.seek.proofs.Sets.{inside}
 use Rattle.verdict.specs.declared.Verdict.{Verdict}
 use Rattle.verdict.specs.Meaning.Decision.{ShortList, short}
-use Rattle.verdict.specs.Working.Marks.{AllAlignIn, SameIn, LowestZero, Mapped, Settled}
+use Rattle.verdict.specs.Working.Deciding.{AllAlignIn, SameIn, LowestZero, Mapped, Settled}
 
 module _ (t : Tables) where
   abbrev z : Sizes

@@ -1,24 +1,25 @@
--- The promises of `judge` and `judge_counting`, for a call that is turned away at once and for one that is not.
+-- The promise of `judge`, for a call that is turned away at once and for one that is not.
 use mathlib.Core.Path.{_≡_, _∙_}
 use mathlib.Core.Logic.{_⊎_, inl, inr}
 use mathlib.Core.List.{List}
 use Prim.Native.Nat.{ℕ, _≤_, min}
 use native.Mathlib.Omega.{arith}
 use lib.ListN.{length}
-use Rattle.memory.specs.Meaning.Refusals.{Free, FirstOrNone}
+use Rattle.memory.specs.Meaning.Refusals.{Free, Keeps, FirstOrNone}
 use Rattle.memory.specs.Meaning.Slices.{Zero, Cleared}
 use Rattle.memory.specs.Working.Lowest.{Numbered}
 use Rattle.memory.proofs.Refusals.{first-lower, keeps-second}
 use Rattle.machine.specs.Meaning.Tables.{Tables, pairs, oldMachine, newMachine}
 use Rattle.machine.specs.Meaning.Faults.{TablesFault}
-use Rattle.machine.specs.Meaning.Lent.{Lent, Left, leftOf}
+use Rattle.machine.specs.Meaning.Lent.{Lent, leftOf}
 use Rattle.seek.specs.Working.Steps.{Good, Both}
-use Rattle.seek.proofs.Refusals.{fault-most, tables-numbered, good, room-enough}
+use Rattle.table_faults.proofs.Refusals.{fault-most, tables-numbered}
+use Rattle.seek.proofs.Accepted.{good, room-enough}
 use Rattle.verdict.specs.declared.Verdict.{Verdict}
 use Rattle.verdict.specs.declared.Judged.{Judged}
-use Rattle.verdict.specs.Meaning.Decision.{verdictReply, Decided, ShortList, short}
-use Rattle.verdict.specs.Meaning.Promise.{JudgeFault, call, list, Judges, JudgesCounting}
-use Rattle.verdict.specs.Working.Marks.{Mapped, Settled, WithoutCounts, WithCounts}
+use Rattle.verdict.specs.Meaning.Decision.{verdictReply, Decided, CountsBeside, ShortList, short}
+use Rattle.verdict.specs.Meaning.Promise.{JudgeFault, call, list, Judges}
+use Rattle.verdict.specs.Working.Deciding.{Mapped, Settled, WithoutCounts, WithCounts}
 use Rattle.verdict.proofs.Tallies.{map-counts}
 
 -- a call that is not turned away: tables and scratch of a and b entries serve for both maps
@@ -47,28 +48,40 @@ module _ (t : Tables) (s : Lent) where
   above : {n m : ℕ} → Room n → Short m → n ≤ m
   above f (short l w h) = omega (arith, fault-most f)
 
-  pub judged-refused : {depth reach written : List ℕ} {n : ℕ} → (n ≡ 0 → ⊥) → FirstOrNone (TablesFault t (min (s .depth) (s .reach))) n → Cleared (s .depth) depth → Cleared (s .reach) reach → Cleared (s .written) written → Judges t s (leftOf depth reach written) (Verdict.Refused n)
-  judged-refused z l a b c =
-      let f = l .some z in
-      record { keeps = (first-lower Room Short (JudgeFault t s) (λ m x. call x) (λ m x. list x) either judge-numbered f (λ m x. above (f .applies) x), c .zero); tidy = record { depth = a; reach = b; written = c .size } }
+  -- what is kept beside the verdict v, with the list slice left as l
+  abbrev KeptBy : List ℕ → Verdict → Type 0
+  KeptBy l v = Keeps (JudgeFault t s) (Decided (oldMachine t) (newMachine t) (t .sizes) l) (Zero l) (verdictReply v)
 
-  module _ (none : Free (TablesFault t (min (s .depth) (s .reach)))) where
-    pub judged : {depth reach written : List ℕ} {r : Verdict} → {d n w : ℕ} → Settled t w written r → Cleared d depth → Cleared n reach → w ≡ s .written → d ≡ s .depth → n ≡ s .reach → length written ≡ w → Judges t s (leftOf depth reach written) r
-    judged {written = written} {r} k a b ew ed er e = record {
-      keeps = keeps-second Room Short (JudgeFault t s) (λ m x. call x) (λ m x. list x) either (Decided (oldMachine t) (newMachine t) (t .sizes) written) (Zero written) none (verdictReply r) (rw ew at (k .keeps));
-      tidy = record { depth = rw ed at a; reach = rw er at b; written = e ∙ ew };
-    }
+  abbrev Beside : Verdict → Judged → Type 0
+  Beside v r = CountsBeside (oldMachine t) (newMachine t) (t .sizes) (verdictReply v) (r .alike) (r .alignable)
 
--- with the counts, which a refusal leaves out
-pub judged-without : {t : Tables} {s : Lent} {e : Left} {n : ℕ} {r : Judged} → Judges t s e (Verdict.Refused n) → WithoutCounts n r → JudgesCounting t s e r
-judged-without j w = record { judges = rw (w .verdict) j; counts = rw (w .verdict) (w .alike, w .alignable) }
+  pub judged-refused : {depth reach written : List ℕ} {n : ℕ} {r : Judged} → (n ≡ 0 → ⊥) → FirstOrNone Room n → Cleared (s .depth) depth → Cleared (s .reach) reach → Cleared (s .written) written → WithoutCounts n r → Judges t s (leftOf depth reach written) r
+  judged-refused {written = written} {n} z l a b c w = record {
+    keeps = rw (w .verdict) kept;
+    tidy = record { depth = a; reach = b; written = c .size };
+    counts = rw (w .verdict) (w .alike, w .alignable);
+  }
+    where
+      kept : KeptBy written (Verdict.Refused n)
+      kept = let f = l .some z in (first-lower Room Short (JudgeFault t s) (λ m x. call x) (λ m x. list x) either judge-numbered f (λ m x. above (f .applies) x), c .zero)
 
-with-counts : {t : Tables} {s : Lent} {e : Left} {depth reach : List ℕ} {r : Judged} (v : Verdict) → Judges t s e v → Mapped t depth reach → WithCounts (t .sizes) depth reach v r → JudgesCounting t s e r
-with-counts (Verdict.Same n) j m w = record { judges = rw (w .0) j; counts = rw (w .0) (map-counts m (w .1)) }
-with-counts (Verdict.Apart p n) j m w = record { judges = rw (w .0) j; counts = rw (w .0) (map-counts m (w .1)) }
-with-counts (Verdict.Refused n) j m w = judged-without j w
+  -- the counts of the maps, which a refusal leaves out
+  beside : {depth reach : List ℕ} (r : Judged) (v : Verdict) → Mapped t depth reach → WithCounts (t .sizes) depth reach v r → (r .verdict ≡ v) × Beside v r
+  beside r (Verdict.Same n) m w = (w .0, map-counts m (w .1))
+  beside r (Verdict.Apart p n) m w = (w .0, map-counts m (w .1))
+  beside r (Verdict.Refused n) m w = (w .verdict, (w .alike, w .alignable))
 
-pub judged-with : (t : Tables) (s : Lent) → Free (TablesFault t (min (s .depth) (s .reach))) → {depth₀ reach₀ depth reach written : List ℕ} {r : Judged} {w : ℕ} (v : Verdict) → Settled t w written v
-    → Both t depth₀ reach₀ → WithCounts (t .sizes) depth₀ reach₀ v r → Cleared (length depth₀) depth → Cleared (length reach₀) reach
-    → w ≡ s .written → length depth₀ ≡ s .depth → length reach₀ ≡ s .reach → length written ≡ w → JudgesCounting t s (leftOf depth reach written) r
-judged-with t s none v k m c a b ew ed er e = with-counts v (judged t s none k a b ew ed er e) (mapped none ed er m) c
+  module _ (none : Free Room) where
+    settled : {written : List ℕ} {w : ℕ} (v : Verdict) → Settled t w written v → w ≡ s .written → KeptBy written v
+    settled {written} v k e = keeps-second Room Short (JudgeFault t s) (λ m x. call x) (λ m x. list x) either (Decided (oldMachine t) (newMachine t) (t .sizes) written) (Zero written) none (verdictReply v) (rw e at (k .keeps))
+
+    pub judged : {depth₀ reach₀ depth reach written : List ℕ} {r : Judged} {w : ℕ} (v : Verdict) → Settled t w written v
+        → Both t depth₀ reach₀ → WithCounts (t .sizes) depth₀ reach₀ v r → Cleared (length depth₀) depth → Cleared (length reach₀) reach
+        → w ≡ s .written → length depth₀ ≡ s .depth → length reach₀ ≡ s .reach → length written ≡ w → Judges t s (leftOf depth reach written) r
+    judged {r = r} v k m c a b ew ed er e =
+        let x = beside r v (mapped none ed er m) c in
+        record {
+          keeps = rw (x .0) (settled v k ew);
+          tidy = record { depth = rw ed at a; reach = rw er at b; written = e ∙ ew };
+          counts = rw (x .0) (x .1);
+        }

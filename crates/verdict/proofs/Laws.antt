@@ -1,5 +1,5 @@
--- What the promises of `judge` and `judge_counting` shut out: a refusal without a number, and two answers to one call. And 16 is
--- measured on a list that there always is.
+-- What the promise of `judge` shuts out: a refusal without a number, and two answers to one call. And 16 is measured on a list that
+-- there always is.
 use mathlib.Core.Path.{_≡_, sym, ap, _∙_, subst}
 use mathlib.Core.List.{List}
 use Prim.Native.Nat.{ℕ, _<_, min}
@@ -17,17 +17,19 @@ use Rattle.machine.specs.Meaning.Tables.{Tables, oldMachine, newMachine}
 use Rattle.machine.specs.Meaning.Verdict.{VerdictList}
 use Rattle.machine.specs.Meaning.Verdict as W
 use Rattle.machine.specs.Working.Pairs.{Closed}
+use Rattle.machine.proofs.Lent.{same-left}
 use Rattle.machine.proofs.Verdict.{written-unique, apart-unique, same-not-apart}
 use Rattle.machine.proofs.Written.{written-exists}
 use Rattle.machine.proofs.Counting.{counts-unique}
 use Rattle.machine.specs.Meaning.Faults.{TablesFault}
 use Rattle.machine.specs.Meaning.Lent.{Lent, Left}
-use Rattle.seek.proofs.Refusals.{fault-some, good}
+use Rattle.table_faults.proofs.Refusals.{fault-some}
+use Rattle.seek.proofs.Accepted.{good}
 use Rattle.seek.proofs.Sets.{inside}
 use Rattle.verdict.specs.declared.Verdict.{Verdict}
 use Rattle.verdict.specs.declared.Judged.{Judged}
 use Rattle.verdict.specs.Meaning.Decision.{Decision, same, apart, verdictReply, stepsOf, Says, Decided, CountsBeside, short}
-use Rattle.verdict.specs.Meaning.Promise.{JudgeFault, call, list, Judges, JudgesCounting}
+use Rattle.verdict.specs.Meaning.Promise.{JudgeFault, call, list, Judges}
 
 -- an answer is known by its reply
 pub reply-one : (q r : Verdict) → verdictReply q ≡ verdictReply r → q ≡ r
@@ -81,8 +83,8 @@ module _ (t : Tables) (s : Lent) where
   fault-positive (call f) = omega (arith, fault-some f)
   fault-positive (list (short l w h)) = omega arith
 
-  pub refused-0-shut : (e : Left) → Judges t s e (Verdict.Refused 0) → ⊥
-  refused-0-shut e j = omega (arith, fault-positive (j .keeps .0 .applies))
+  pub refused-0-shut : (e : Left) (r : Judged) → r .verdict ≡ Verdict.Refused 0 → Judges t s e r → ⊥
+  refused-0-shut e r is j = omega (arith, fault-positive ((rw is at (j .keeps)) .0 .applies))
 
   module _ (none : Free (TablesFault t (min (s .depth) (s .reach)))) where
     -- an accepted call has a list, and one only: 16 is measured on it
@@ -95,27 +97,27 @@ module _ (t : Tables) (s : Lent) where
   closed : Free (JudgeFault t s) → Closed m0 m1 (t .sizes)
   closed f = inside t (good (λ n x. f n (call x)))
 
-  -- no two answers keep one promise, and no two list slices
-  module _ {d e : Left} {q r : Verdict} (j : Judges t s d q) (k : Judges t s e r) where
-    sizes : length (d .written) ≡ length (e .written)
-    sizes = j .tidy .written ∙ sym (k .tidy .written)
-
-    pub judges-unique : (verdictReply q ≡ verdictReply r) × (d .written ≡ e .written)
-    judges-unique =
-        kept-unique (JudgeFault t s) (Decided m0 m1 (t .sizes)) Zero (d .written) (e .written)
-        (λ f x y u v. (decision-unique m0 m1 (t .sizes) (closed f) (d .written) (e .written) sizes x y u v, list-unique m0 m1 (t .sizes) (closed f) (d .written) (e .written) sizes x y u v))
-        (zero-unique (d .written) (e .written) sizes) (verdictReply q) (verdictReply r) (j .keeps) (k .keeps)
-
-    pub verdict-unique : q ≡ r
-    verdict-unique = reply-one q r (judges-unique .0)
-
--- nor two answers with their counts
 pub counts-one : (m0 m1 : Machine) (z : Sizes) {a b c d : ℕ} (x : Reply Decision) → CountsBeside m0 m1 z x a b → CountsBeside m0 m1 z x c d → (a ≡ c) × (b ≡ d)
 counts-one m0 m1 z (answer x) p q = (counts-unique (p .alike) (q .alike), counts-unique (p .alignable) (q .alignable))
 counts-one m0 m1 z (refusal n) p q = (p .0 ∙ sym (q .0), p .1 ∙ sym (q .1))
 
-pub judged-unique : {t : Tables} {s : Lent} {d e : Left} {q r : Judged} → JudgesCounting t s d q → JudgesCounting t s e r → q ≡ r
-judged-unique {t} {s} {d} {e} {q} {r} j k =
-    let v : q .verdict ≡ r .verdict = verdict-unique t s (j .judges) (k .judges) in
-    let n = counts-one (oldMachine t) (newMachine t) (t .sizes) (verdictReply (r .verdict)) (subst (λ (x : Verdict). CountsBeside (oldMachine t) (newMachine t) (t .sizes) (verdictReply x) (q .alike) (q .alignable)) v (j .counts)) (k .counts) in
+-- one verdict has one pair of counts
+pub judged-one : (m0 m1 : Machine) (z : Sizes) {q r : Judged} → q .verdict ≡ r .verdict → CountsBeside m0 m1 z (verdictReply (q .verdict)) (q .alike) (q .alignable)
+    → CountsBeside m0 m1 z (verdictReply (r .verdict)) (r .alike) (r .alignable) → q ≡ r
+judged-one m0 m1 z {q} {r} v a b =
+    let n = counts-one m0 m1 z (verdictReply (r .verdict)) (subst (λ (x : Verdict). CountsBeside m0 m1 z (verdictReply x) (q .alike) (q .alignable)) v a) b in
     λ i. record { verdict = v i; alike = n .0 i; alignable = n .1 i }
+
+-- no two answers keep one promise, and no two ways to leave the slices
+module _ {t : Tables} {s : Lent} {d e : Left} {q r : Judged} (j : Judges t s d q) (k : Judges t s e r) where
+  sizes : length (d .written) ≡ length (e .written)
+  sizes = j .tidy .written ∙ sym (k .tidy .written)
+
+  replies : (verdictReply (q .verdict) ≡ verdictReply (r .verdict)) × (d .written ≡ e .written)
+  replies =
+      kept-unique (JudgeFault t s) (Decided (oldMachine t) (newMachine t) (t .sizes)) Zero (d .written) (e .written)
+      (λ f x y u v. (decision-unique (oldMachine t) (newMachine t) (t .sizes) (closed t s f) (d .written) (e .written) sizes x y u v, list-unique (oldMachine t) (newMachine t) (t .sizes) (closed t s f) (d .written) (e .written) sizes x y u v))
+      (zero-unique (d .written) (e .written) sizes) (verdictReply (q .verdict)) (verdictReply (r .verdict)) (j .keeps) (k .keeps)
+
+  pub judges-unique : (q ≡ r) × (d ≡ e)
+  judges-unique = (judged-one (oldMachine t) (newMachine t) (t .sizes) (reply-one (q .verdict) (r .verdict) (replies .0)) (j .counts) (k .counts), same-left s d e (j .tidy) (k .tidy) (replies .1))

@@ -1,4 +1,3 @@
-pub mod Images
 pub mod Parts
 pub mod Scanning
 pub mod Aligning

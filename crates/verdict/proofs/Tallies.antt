@@ -18,7 +18,7 @@ use Rattle.seek.proofs.Sets.{alike-of-zero, zero-of-alike}
 use Rattle.verdict.specs.declared.Verdict.{Verdict}
 use Rattle.verdict.specs.declared.Judged.{Judged}
 use Rattle.verdict.specs.Meaning.Decision.{CountsPairs}
-use Rattle.verdict.specs.Working.Marks.{Mapped, MapCounts, WithCounts}
+use Rattle.verdict.specs.Working.Deciding.{Mapped, MapCounts, WithCounts}
 use Rattle.verdict.proofs.Verdict as verdict
 use Rattle.verdict.proofs.Answers.{alignable-of-some, some-of-alignable}
 

@@ -6,8 +6,8 @@ use borrow.Author.Needs.{needs}
 use Rattle.align_report.proofs.write_comparison.Statement.{statement}
 use Rattle.align_report.proofs.write_comparison.Tie as tie
 
-compare-counting-requires : tie.Need-compare-counting-requires
-compare-counting-requires c κs = search needs
+compare-requires : tie.Need-compare-requires
+compare-requires c κs = search needs
 
 enum-known-verdict : tie.Need-enum-known-verdict
 enum-known-verdict c = search needs
@@ -46,16 +46,16 @@ same-length-8 : tie.Need-same-length-8
 same-length-8 c = search needs
 
 returns : tie.Need-returns
-returns c = prints-refused (c .before .before .before .before .before .before .before .before .before .before .before .before .before .before .before .before .before .before .before .before .before .compare-counting .result .verdict) (c .before .before .before .before .before .before .before .before .before .before .before .before .before .before .before .before .before .before .before .before .before .compare-counting .ensures .compares) (c .before .before .before .before .before .before .match .keys2) (c .before .before .before .before .before .match2 .keys2) (c .before .before .before .before .verdict3 .ensures) (c .before .before .put-refusal .ensures)
+returns c = prints-refused (c .before .before .before .before .before .before .before .before .before .before .before .before .before .before .before .before .before .before .before .before .before .compare .ensures) (c .before .before .before .before .before .before .match .keys2) (c .before .before .before .before .before .match2 .keys2) (c .before .before .before .before .verdict3 .ensures) (c .before .before .put-refusal .ensures)
 
 sizes-of-requires : tie.Need-sizes-of-requires
-sizes-of-requires c κs = apart-facts (c .before .before .before .before .before .before .before .before .before .before .before .before .before .before .before .before .before .before .compare-counting .ensures) (c .before .verdict2 .given .1) .0
+sizes-of-requires c κs = apart-facts (c .before .before .before .before .before .before .before .before .before .before .before .before .before .before .before .before .before .before .compare .ensures) (c .before .verdict2 .given .1) .0
 
 facts-of-requires : tie.Need-facts-of-requires
-facts-of-requires c κs = apart-facts (c .before .before .before .before .before .before .before .before .before .before .before .before .before .before .before .before .before .before .before .compare-counting .ensures) (c .before .before .verdict2 .given .1)
+facts-of-requires c κs = apart-facts (c .before .before .before .before .before .before .before .before .before .before .before .before .before .before .before .before .before .before .before .compare .ensures) (c .before .before .verdict2 .given .1)
 
 put-apart-requires : tie.Need-put-apart-requires
-put-apart-requires c κs = let h = apart-fits (c .before .before .before .before .before .before .before .before .before .before .before .before .before .before .before .before .before .before .before .before .before .before .before .before .before .before .compare-counting .ensures) (c .before .before .before .before .before .before .before .before .before .verdict2 .given .1) (c .before .before .before .before .before .before .before .sizes-of .ensures) in (h .0, (h .1, omega (arith, h .1, c .before .before .before .before .before .before .before .before .before .before .before .before .before .before .before .before .before .before .before .before .before .before .before .before .before .before .before .before .before .before .before .before .before .before .before .before .before .before .before .before .before .before .pre, c .before .before .before .before .before .before .before .before .before .before .before .before .before .list .given)))
+put-apart-requires c κs = let h = apart-fits (c .before .before .before .before .before .before .before .before .before .before .before .before .before .before .before .before .before .before .before .before .before .before .before .before .before .before .compare .ensures) (c .before .before .before .before .before .before .before .before .before .verdict2 .given .1) (c .before .before .before .before .before .before .before .sizes-of .ensures) in (h .0, (h .1, omega (arith, h .1, c .before .before .before .before .before .before .before .before .before .before .before .before .before .before .before .before .before .before .before .before .before .before .before .before .before .before .before .before .before .before .before .before .before .before .before .before .before .before .before .before .before .before .pre, c .before .before .before .before .before .before .before .before .before .before .before .before .before .list .given)))
 
 same-length-9 : tie.Need-same-length-9
 same-length-9 c = c .before .before .before .before .before .before .before .before .before .before .before .before .before .before .before .before .before .before .before .before .before .before .before .before .before .before .before .before .old-next .given
@@ -82,13 +82,13 @@ same-length-16 : tie.Need-same-length-16
 same-length-16 c = search needs
 
 returns-2 : tie.Need-returns-2
-returns-2 c = prints-apart (c .before .before .before .before .before .before .before .before .before .before .before .before .before .before .before .before .before .before .before .before .before .before .before .before .before .before .before .before .before .compare-counting .ensures) (c .before .before .before .before .before .before .before .before .before .before .before .before .verdict2 .given .1) (c .before .before .before .before .before .before .before .before .before .before .sizes-of .ensures) (c .before .before .before .before .before .before .before .before .before .facts-of .ensures) (c .before .before .put-apart .ensures)
+returns-2 c = prints-apart (c .before .before .before .before .before .before .before .before .before .before .before .before .before .before .before .before .before .before .before .before .before .before .before .before .before .before .before .before .before .compare .ensures) (c .before .before .before .before .before .before .before .before .before .before .before .before .verdict2 .given .1) (c .before .before .before .before .before .before .before .before .before .before .sizes-of .ensures) (c .before .before .before .before .before .before .before .before .before .facts-of .ensures) (c .before .before .put-apart .ensures)
 
 facts-of-requires-2 : tie.Need-facts-of-requires-2
-facts-of-requires-2 c κs = same-facts (c .before .before .before .before .before .before .before .before .before .before .before .before .before .before .before .before .before .compare-counting .ensures) (c .before .verdict .given .1)
+facts-of-requires-2 c κs = same-facts (c .before .before .before .before .before .before .before .before .before .before .before .before .before .before .before .before .before .compare .ensures) (c .before .verdict .given .1)
 
 put-same-requires : tie.Need-put-same-requires
-put-same-requires c κs = let h = same-fits (c .before .before .before .before .before .before .before .before .before .before .before .before .before .before .before .before .before .before .before .before .compare-counting .ensures) (c .before .before .before .before .verdict .given .1) in (h, omega (arith, h, c .before .before .before .before .before .before .before .before .before .before .before .before .before .before .before .before .before .before .before .before .before .before .before .before .before .before .before .before .before .before .before .before .before .before .before .before .pre, c .before .before .before .before .before .before .before .list .given))
+put-same-requires c κs = let h = same-fits (c .before .before .before .before .before .before .before .before .before .before .before .before .before .before .before .before .before .before .before .before .compare .ensures) (c .before .before .before .before .verdict .given .1) in (h, omega (arith, h, c .before .before .before .before .before .before .before .before .before .before .before .before .before .before .before .before .before .before .before .before .before .before .before .before .before .before .before .before .before .before .before .before .before .before .before .before .pre, c .before .before .before .before .before .before .before .list .given))
 
 same-length-17 : tie.Need-same-length-17
 same-length-17 c = search needs
@@ -115,13 +115,13 @@ same-length-24 : tie.Need-same-length-24
 same-length-24 c = search needs
 
 returns-3 : tie.Need-returns-3
-returns-3 c = prints-same (c .before .before .before .before .before .before .before .before .before .before .before .before .before .before .before .before .before .before .before .before .before .before .before .compare-counting .ensures) (c .before .before .before .before .before .before .before .verdict .given .1) (c .before .before .before .before .before .facts-of2 .ensures) (c .before .before .put-same .ensures)
+returns-3 c = prints-same (c .before .before .before .before .before .before .before .before .before .before .before .before .before .before .before .before .before .before .before .before .before .before .before .compare .ensures) (c .before .before .before .before .before .before .before .verdict .given .1) (c .before .before .before .before .before .facts-of2 .ensures) (c .before .before .put-same .ensures)
 
 pub write-comparison-spec : {M : Type 1} → statement M
 write-comparison-spec =
     tie.close
     (tie.spec
-    compare-counting-requires
+    compare-requires
     enum-known-verdict
     enum-known-verdict-2
     verdict-requires

@@ -4,8 +4,8 @@ use borrow.Author.Needs.{needs}
 use Rattle.compare.proofs.judge_or_clear.Statement.{statement}
 use Rattle.compare.proofs.judge_or_clear.Tie as tie
 
-judge-counting-requires : tie.Need-judge-counting-requires
-judge-counting-requires c κs = search needs
+judge-requires : tie.Need-judge-requires
+judge-requires c κs = search needs
 
 enum-told : tie.Need-enum-told
 enum-told c = search needs
@@ -32,7 +32,7 @@ same-length-7 : tie.Need-same-length-7
 same-length-7 c = search needs
 
 returns : tie.Need-returns
-returns c = record { judges = c .before .before .before .before .before .before .before .judge-counting .ensures; tables = tables-kept _ (c .before .before .before .before .before .before .before .judge-counting .result .verdict) (c .match .keys2) }
+returns c = record { judges = c .before .before .before .before .before .before .before .judge .ensures; tables = tables-kept _ (c .before .before .before .before .before .before .before .judge .result .verdict) (c .match .keys2) }
 
 clear-bytes-requires : tie.Need-clear-bytes-requires
 clear-bytes-requires c κs = search needs
@@ -68,13 +68,13 @@ same-length-14 : tie.Need-same-length-14
 same-length-14 c = search needs
 
 returns-2 : tie.Need-returns-2
-returns-2 c = record { judges = c .before .before .before .before .before .before .before .before .before .before .before .before .before .before .before .before .before .before .before .before .before .before .before .before .judge-counting .ensures; tables = rw (c .before .before .before .before .before .before .before .before .before .before .before .before .before .before .before .before .enum-told .given .1) ((c .before .before .before .before .before .before .before .before .before .before .before .before .before .before .clear-bytes .ensures, c .before .before .before .before .before .before .before .before .before .before .clear-bytes2 .ensures), (c .before .before .before .before .before .before .clear-bytes3 .ensures, c .before .before .clear-bytes4 .ensures)) }
+returns-2 c = record { judges = c .before .before .before .before .before .before .before .before .before .before .before .before .before .before .before .before .before .before .before .before .before .before .before .before .judge .ensures; tables = rw (c .before .before .before .before .before .before .before .before .before .before .before .before .before .before .before .before .enum-told .given .1) ((c .before .before .before .before .before .before .before .before .before .before .before .before .before .before .clear-bytes .ensures, c .before .before .before .before .before .before .before .before .before .before .clear-bytes2 .ensures), (c .before .before .before .before .before .before .clear-bytes3 .ensures, c .before .before .clear-bytes4 .ensures)) }
 
 pub judge-or-clear-spec : {M : Type 1} → statement M
 judge-or-clear-spec =
     tie.close
     (tie.spec
-    judge-counting-requires
+    judge-requires
     enum-told
     same-length
     same-length-2

@@ -1,11 +1,10 @@
--- The comparison of two designs: what `compare` and `compare_counting` promise.
+-- The comparison of two designs: what `compare` promises.
 --   TablesLent, TablesLeft   lengths of the four table slices at entry, and what they hold at exit; tablesLentOf and tablesLeftOf make them
 --   CompareFault a b n s k   number k applies to comparing a and b with table slices of lengths n and other slices of lengths s
 --   Compared a b t e x       what the decision x leaves: the tables of both designs, and its list
 --   ClearedAll t e           what a refusal leaves: every written slice is zero
 --   TablesKept n t           every table slice is as long as it was
---   Compares a b n s t e r   such a call: the slices are left as t and e, and r is the answer
---   ComparesCounting a b n s t e r   the same of an answer with the counts of alike and of alignable pairs
+--   Compares a b n s t e r   such a call: the slices are left as t and e, and r is the answer, with the counts of alike and of alignable pairs
 use Prim.Native.Nat.{ℕ, _<_, min}
 use mathlib.Core.Path.{_≡_}
 use mathlib.Core.List.{List}
@@ -16,7 +15,6 @@ use Rattle.netlist.specs.declared.Design.{Design}
 use Rattle.simulator.specs.Meaning.Tables.{HoldsDesign, ZeroTables, BothFault}
 use Rattle.machine.specs.Meaning.Tables.{pairs}
 use Rattle.machine.specs.Meaning.Lent.{Lent, Left, Tidy}
-use Rattle.verdict.specs.declared.Verdict.{Verdict}
 use Rattle.verdict.specs.declared.Judged.{Judged}
 use Rattle.verdict.specs.Meaning.Decision.{Decision, verdictReply, Decided, CountsBeside, ShortList}
 use Rattle.compare.specs.Meaning.Designs.{machineOf, sizesOf}
@@ -64,12 +62,8 @@ pub record TablesKept (n : TablesLent) (t : TablesLeft) : Type 0 where
   pub new-next : length (t .new-next) ≡ n .new-next
   pub new-out : length (t .new-out) ≡ n .new-out
 
-pub record Compares (a b : Design) (n : TablesLent) (s : Lent) (t : TablesLeft) (e : Left) (r : Verdict) : Type 0 where
-  pub keeps : Keeps (CompareFault a b n s) (Compared a b t e) (ClearedAll t e) (verdictReply r)
+pub record Compares (a b : Design) (n : TablesLent) (s : Lent) (t : TablesLeft) (e : Left) (r : Judged) : Type 0 where
+  pub keeps : Keeps (CompareFault a b n s) (Compared a b t e) (ClearedAll t e) (verdictReply (r .verdict))
   pub tidy : Tidy s e
   pub tables : TablesKept n t
-
--- counts over the designs' own steps
-pub record ComparesCounting (a b : Design) (n : TablesLent) (s : Lent) (t : TablesLeft) (e : Left) (r : Judged) : Type 0 where
-  pub compares : Compares a b n s t e (r .verdict)
   pub counts : CountsBeside (machineOf a) (machineOf b) (sizesOf a b) (verdictReply (r .verdict)) (r .alike) (r .alignable)

@@ -9,7 +9,7 @@ use Rattle.machine.specs.Meaning.Tables.{Tables}
 use Rattle.machine.specs.Meaning.Lent.{Lent, Left}
 use Rattle.verdict.specs.declared.Judged.{Judged}
 use Rattle.verdict.specs.Meaning.Decision.{Decision, verdictReply}
-use Rattle.verdict.specs.Meaning.Promise.{JudgesCounting}
+use Rattle.verdict.specs.Meaning.Promise.{Judges}
 use Rattle.compare.specs.Meaning.Comparing.{TablesLeft, tablesLeftOf}
 
 abbrev pub KeptOrCleared : Tables → TablesLeft → Reply Decision → Type 0
@@ -19,5 +19,5 @@ KeptOrCleared t l (refusal n) =
     × (Cleared (length (t .new-next)) (l .new-next) × Cleared (length (t .new-out)) (l .new-out))
 
 pub record JudgedOrCleared (t : Tables) (s : Lent) (l : TablesLeft) (e : Left) (r : Judged) : Type 0 where
-  pub judges : JudgesCounting t s e r
+  pub judges : Judges t s e r
   pub tables : KeptOrCleared t l (verdictReply (r .verdict))

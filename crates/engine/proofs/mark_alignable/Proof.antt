@@ -1,5 +1,5 @@
 -- `mark_alignable`: the marks are those of the pairs for which the map to alike pairs holds a number.
-use Rattle.seek.proofs.Refusals.{good, room-enough}
+use Rattle.seek.proofs.Accepted.{good, room-enough}
 use Rattle.engine.proofs.Marks.{fits-each, marks-alignable}
 use borrow.Author.Needs.{needs}
 use Rattle.engine.proofs.mark_alignable.Statement.{statement}

@@ -1,5 +1,5 @@
 -- `mark_alike`: the marks are those of the pairs for which the map to different outputs holds 0.
-use Rattle.seek.proofs.Refusals.{good, room-enough}
+use Rattle.seek.proofs.Accepted.{good, room-enough}
 use Rattle.engine.proofs.Marks.{fits-each, marks-alike, alike-round}
 use borrow.Author.Needs.{needs}
 use Rattle.engine.proofs.mark_alike.Statement.{statement}

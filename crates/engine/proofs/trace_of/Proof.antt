@@ -1,7 +1,7 @@
 -- `trace_of`: turned away with cleared slices, or what `write_trace` leaves.
 use native.Mathlib.Omega.{arith}
 use Rattle.machine.proofs.Pick.{picked-unique}
-use Rattle.seek.proofs.Refusals.{good, room-enough}
+use Rattle.seek.proofs.Accepted.{good, room-enough}
 use Rattle.engine.proofs.Clearing.{tidy-of}
 use Rattle.engine.proofs.Finds.{lowest-state, free-call, free-in, keeps-outcome}
 use borrow.Author.Needs.{needs}

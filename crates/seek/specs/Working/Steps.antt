@@ -1,5 +1,4 @@
 -- What the helpers over two tables promise each other.
---   InRange, LongEnough, Stays     11, 12 and 13 do not apply
 --   Good t                         the tables t are accepted
 --   MapFor t G d                   the map d is right for the set G
 --   MapOf t G d r                  and r is the number of the first round that adds nothing
@@ -7,31 +6,14 @@
 --   Outcome Absent Sought l l′ r   what a helper that seeks a list leaves in the slice l′, which held l
 use mathlib.Core.Path.{_≡_}
 use mathlib.Core.List.{List}
-use Prim.Native.Nat.{ℕ, _<_, _≤_, _*_}
+use Prim.Native.Nat.{ℕ, _<_, _≤_}
 use lib.ListN.{length, getD, take}
 use Rattle.machine.specs.declared.Found.{Found}
 use Rattle.machine.specs.declared.Pair.{Pair}
-use Rattle.machine.specs.declared.Sizes.{Sizes}
-use Rattle.machine.specs.Meaning.Tables.{Tables, pairs, at, In, Ok, AlikeIn}
+use Rattle.machine.specs.Meaning.Tables.{Tables, at, In, Ok, AlikeIn}
 use Rattle.machine.specs.Working.Maps.{Complete, FirstStill}
 use Rattle.machine.specs.Working.Pairs.{DiffersIn, stepIn}
-use Rattle.search.specs.Working.{Few, Nexts, Outs}
-
-pub record InRange (z : Sizes) : Type 0 where
-  pub few : Few z
-  pub some-old : 0 < z .old
-  pub some-new : 0 < z .new
-  pub some-vectors : 0 < z .vectors
-
-pub record LongEnough (t : Tables) (room : ℕ) : Type 0 where
-  pub old-next : t .sizes .old * t .sizes .vectors ≤ length (t .old-next)
-  pub old-out : t .sizes .old * t .sizes .vectors ≤ length (t .old-out)
-  pub new-next : t .sizes .new * t .sizes .vectors ≤ length (t .new-next)
-  pub new-out : t .sizes .new * t .sizes .vectors ≤ length (t .new-out)
-  pub lent : pairs (t .sizes) ≤ room
-
-pub record Stays (states vectors : ℕ) (next : List ℕ) : Type 0 where
-  pub stays : (i : ℕ) → i < states * vectors → getD next i 0 < states
+use Rattle.search.specs.Working.{Nexts, Outs}
 
 pub record Good (t : Tables) : Type 0 where
   pub nexts : Nexts (t .sizes) (t .old-next) (t .new-next)

@@ -7,7 +7,7 @@ use mathlib.Core.Bool.{false≢true}
 use Rattle.search.specs.Working.{NoneBelow}
 use Rattle.search.proofs.Cells.{scan-start, scan-more, scan-found, scan-none}
 use Rattle.machine.specs.Meaning.Tables.{pairs}
-use Rattle.verdict.specs.Working.Marks.{OpenAt}
+use Rattle.verdict.specs.Working.Deciding.{OpenAt}
 use Rattle.verdict.proofs.lowest_open.Statement.{statement}
 use Rattle.verdict.proofs.lowest_open.Tie as tie
 

@@ -1,14 +1,12 @@
--- The verdict on two tables: what `judge` and `judge_counting` promise.
+-- The verdict on two tables: what `judge` promises.
 --   JudgeFault t s n   number n applies to a call of the tables t that is lent slices of lengths s
---   Judges t s e r     such a call: the slices are left as e, and r is the answer
---   JudgesCounting t s e r   the same of an answer with the counts of alike and of alignable pairs
+--   Judges t s e r     such a call: the slices are left as e, and r is the answer, with the counts of alike and of alignable pairs
 use Prim.Native.Nat.{ℕ, min}
 use Rattle.memory.specs.Meaning.Refusals.{Keeps}
 use Rattle.memory.specs.Meaning.Slices.{Zero}
 use Rattle.machine.specs.Meaning.Tables.{Tables, oldMachine, newMachine}
 use Rattle.machine.specs.Meaning.Faults.{TablesFault}
 use Rattle.machine.specs.Meaning.Lent.{Lent, Left, Tidy}
-use Rattle.verdict.specs.declared.Verdict.{Verdict}
 use Rattle.verdict.specs.declared.Judged.{Judged}
 use Rattle.verdict.specs.Meaning.Decision.{verdictReply, Decided, CountsBeside, ShortList}
 
@@ -18,10 +16,7 @@ pub data JudgeFault (t : Tables) (s : Lent) : ℕ → Type 0 where
   list : {n : ℕ} → ShortList (oldMachine t) (newMachine t) (t .sizes) (s .written) n → JudgeFault t s n
 
 -- "After any call scratch is all zero. After a refusal every written slice is zero throughout"
-pub record Judges (t : Tables) (s : Lent) (e : Left) (r : Verdict) : Type 0 where
-  pub keeps : Keeps (JudgeFault t s) (Decided (oldMachine t) (newMachine t) (t .sizes) (e .written)) (Zero (e .written)) (verdictReply r)
+pub record Judges (t : Tables) (s : Lent) (e : Left) (r : Judged) : Type 0 where
+  pub keeps : Keeps (JudgeFault t s) (Decided (oldMachine t) (newMachine t) (t .sizes) (e .written)) (Zero (e .written)) (verdictReply (r .verdict))
   pub tidy : Tidy s e
-
-pub record JudgesCounting (t : Tables) (s : Lent) (e : Left) (r : Judged) : Type 0 where
-  pub judges : Judges t s e (r .verdict)
   pub counts : CountsBeside (oldMachine t) (newMachine t) (t .sizes) (verdictReply (r .verdict)) (r .alike) (r .alignable)

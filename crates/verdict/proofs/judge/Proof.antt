@@ -1,9 +1,9 @@
--- `judge_counting`: turned away at once, or decided by the two maps.
+-- `judge`: turned away at once, or decided by the two maps.
 use mathlib.Core.Path.{refl}
-use Rattle.verdict.proofs.Judging.{judged-refused, enough, mapped, judged-without, judged-with}
+use Rattle.verdict.proofs.Judging.{judged-refused, enough, mapped, judged}
 use borrow.Author.Needs.{needs}
-use Rattle.verdict.proofs.judge_counting.Statement.{statement}
-use Rattle.verdict.proofs.judge_counting.Tie as tie
+use Rattle.verdict.proofs.judge.Statement.{statement}
+use Rattle.verdict.proofs.judge.Tie as tie
 
 shorter-requires : tie.Need-shorter-requires
 shorter-requires c κs = search needs
@@ -30,7 +30,7 @@ same-length-3 : tie.Need-same-length-3
 same-length-3 c = search needs
 
 returns : tie.Need-returns
-returns c = judged-without (judged-refused _ _ (c .before .before .before .before .before .before .before .before .if1 .taken) (rw (c .before .before .before .before .before .before .before .before .before .before .before .before .before .before .shorter .ensures) at (c .before .before .before .before .before .before .before .before .before .before .before .before .before .call-fault .ensures)) (c .before .before .before .before .before .clear-scratch .ensures .0) (c .before .before .before .before .before .clear-scratch .ensures .1) (c .before .before .before .before .before .before .before .before .before .before .before .clear-bytes .ensures)) (c .without-counts .ensures)
+returns c = judged-refused _ _ (c .before .before .before .before .before .before .before .before .if1 .taken) (rw (c .before .before .before .before .before .before .before .before .before .before .before .before .before .before .shorter .ensures) at (c .before .before .before .before .before .before .before .before .before .before .before .before .before .call-fault .ensures)) (c .before .before .before .before .before .clear-scratch .ensures .0) (c .before .before .before .before .before .clear-scratch .ensures .1) (c .before .before .before .before .before .before .before .before .before .before .before .clear-bytes .ensures) (c .without-counts .ensures)
 
 map-both-requires : tie.Need-map-both-requires
 map-both-requires c κs = enough ((rw (c .before .before .before .before .before .before .before .before .shorter .ensures) at (c .before .before .before .before .before .before .before .call-fault .ensures)) .none (c .before .before .if1 .left)) refl refl
@@ -54,10 +54,10 @@ same-length-6 : tie.Need-same-length-6
 same-length-6 c = search needs
 
 returns-2 : tie.Need-returns-2
-returns-2 c = judged-with _ _ ((rw (c .before .before .before .before .before .before .before .before .before .before .before .before .before .before .before .before .before .before .before .before .before .before .before .before .before .before .before .before .before .shorter .ensures) at (c .before .before .before .before .before .before .before .before .before .before .before .before .before .before .before .before .before .before .before .before .before .before .before .before .before .before .before .before .call-fault .ensures)) .none (c .before .before .before .before .before .before .before .before .before .before .before .before .before .before .before .before .before .before .before .before .before .before .before .if1 .left)) (c .before .before .before .before .before .before .before .before .before .before .before .before .decide .result) (c .before .before .before .before .before .before .before .before .before .before .before .before .decide .ensures) (c .before .before .before .before .before .before .before .before .before .before .before .before .before .before .before .before .before .before .before .before .map-both .ensures) (c .before .before .before .before .before .before .before .with-counts .ensures) (c .before .before .before .before .clear-scratch2 .ensures .0) (c .before .before .before .before .clear-scratch2 .ensures .1) (c .before .before .before .before .before .before .before .before .before .before .before .before .before .before .before .before .before .before .before .before .before .before .before .before .before .before .clear-bytes .ensures .size) (c .before .before .before .before .before .before .before .before .before .before .before .before .before .before .before .before .before .before .before .before .map-both .kept .1 .1 .1 .1 .1 .0) (c .before .before .before .before .before .before .before .before .before .before .before .before .before .before .before .before .before .before .before .before .map-both .kept .1 .1 .1 .1 .1 .1 .0) (c .before .before .before .before .before .before .before .before .before .before .before .before .decide .kept .1 .1 .1 .1 .1 .1 .1 .0)
+returns-2 c = judged _ _ ((rw (c .before .before .before .before .before .before .before .before .before .before .before .before .before .before .before .before .before .before .before .before .before .before .before .before .before .before .before .before .before .shorter .ensures) at (c .before .before .before .before .before .before .before .before .before .before .before .before .before .before .before .before .before .before .before .before .before .before .before .before .before .before .before .before .call-fault .ensures)) .none (c .before .before .before .before .before .before .before .before .before .before .before .before .before .before .before .before .before .before .before .before .before .before .before .if1 .left)) (c .before .before .before .before .before .before .before .before .before .before .before .before .decide .result) (c .before .before .before .before .before .before .before .before .before .before .before .before .decide .ensures) (c .before .before .before .before .before .before .before .before .before .before .before .before .before .before .before .before .before .before .before .before .map-both .ensures) (c .before .before .before .before .before .before .before .with-counts .ensures) (c .before .before .before .before .clear-scratch2 .ensures .0) (c .before .before .before .before .clear-scratch2 .ensures .1) (c .before .before .before .before .before .before .before .before .before .before .before .before .before .before .before .before .before .before .before .before .before .before .before .before .before .before .clear-bytes .ensures .size) (c .before .before .before .before .before .before .before .before .before .before .before .before .before .before .before .before .before .before .before .before .map-both .kept .1 .1 .1 .1 .1 .0) (c .before .before .before .before .before .before .before .before .before .before .before .before .before .before .before .before .before .before .before .before .map-both .kept .1 .1 .1 .1 .1 .1 .0) (c .before .before .before .before .before .before .before .before .before .before .before .before .decide .kept .1 .1 .1 .1 .1 .1 .1 .0)
 
-pub judge-counting-spec : {M : Type 1} → statement M
-judge-counting-spec =
+pub judge-spec : {M : Type 1} → statement M
+judge-spec =
     tie.close
     (tie.spec
     shorter-requires

@@ -1,9 +1,9 @@
 -- `call_fault`: the lowest number, in the order of the tests.
 use Rattle.machine.specs.Meaning.Faults.{TablesFault}
-use Rattle.seek.proofs.Refusals.{at-11, at-12, at-13, at-none}
+use Rattle.table_faults.proofs.Refusals.{at-11, at-12, at-13, at-none}
 use borrow.Author.Needs.{needs}
-use Rattle.seek.proofs.call_fault.Statement.{statement}
-use Rattle.seek.proofs.call_fault.Tie as tie
+use Rattle.table_faults.proofs.call_fault.Statement.{statement}
+use Rattle.table_faults.proofs.call_fault.Tie as tie
 
 out-of-range-requires : tie.Need-out-of-range-requires
 out-of-range-requires c κs = search needs
@@ -22,7 +22,7 @@ leads-out-requires : tie.Need-leads-out-requires
 leads-out-requires c κs =
     let r = rw (c .before .before .if1 .left) at (c .before .before .before .out-of-range .ensures) in
     let l = rw (c .if2 .left) at (c .before .too-short .ensures) in
-    (r .few .few-old, (r .few .few-vectors, l .old-next))
+    (r .few-old, (r .few-vectors, l .old-next))
 
 returns-3 : tie.Need-returns-3
 returns-3 c =
@@ -32,7 +32,7 @@ leads-out-requires-2 : tie.Need-leads-out-requires-2
 leads-out-requires-2 c κs =
     let r = rw (c .before .before .before .before .if1 .left) at (c .before .before .before .before .before .out-of-range .ensures) in
     let l = rw (c .before .before .if2 .left) at (c .before .before .before .too-short .ensures) in
-    (r .few .few-new, (r .few .few-vectors, l .new-next))
+    (r .few-new, (r .few-vectors, l .new-next))
 
 returns-4 : tie.Need-returns-4
 returns-4 c =

@@ -11,12 +11,9 @@ use lib.ListN.{length, getD, set, length-set, replicate, getD-replicate, length-
 use lib.Seq.{getD-set-same, getD-set-other, slice, slice-empty, take-suc, drop-append-le, length-take-le}
 use Rattle.numbers.proofs.Order.{tri}
 use Rattle.memory.proofs.Filling.{all-same}
-use Rattle.machine.specs.declared.Pair.{Pair}
 use Rattle.machine.specs.Meaning.Lists.{run, Each}
-use Rattle.machine.specs.Meaning.Tables.{Tables, Ok, oldMachine, newMachine}
-use Rattle.machine.specs.Working.Pairs.{stepIn}
 use Rattle.machine.proofs.Lists.{each-append, run-append, run-in}
-use Rattle.verdict.specs.Working.Marks.{Source, Image, Leading, nextOf}
+use Rattle.marks.specs.Working.{Source, Successors, Leading, nextOf}
 
 module _ (f : ℕ → ℕ) (marks : List Bool) where
   -- the states below s have been looked at
@@ -67,14 +64,14 @@ module _ (f : ℕ → ℕ) (marks : List Bool) where
         forth j m (inr (inl b)) u = rw (b, ← eq) (getD-set-same out q true false inl′)
         forth j m (inr (inr l)) u = absurd (omega arith)
 
-    pub partial-end : (n : ℕ) → s ≡ n → Image f n marks out
+    pub partial-end : (n : ℕ) → s ≡ n → Successors f n marks out
     partial-end n b = rw (← b) (record { back = λ q h t. w .back q t; forth = w .forth })
 
-image-none : (f : ℕ → ℕ) (n : ℕ) (marks : List Bool) → ((s : ℕ) → f s ≡ s) → Image f n marks marks
-image-none f n marks e = record { back = λ q h t. record { state = q; under = h; marked = t; leads = e q }; forth = λ s l t. rw (e s) t }
+successors-none : (f : ℕ → ℕ) (n : ℕ) (marks : List Bool) → ((s : ℕ) → f s ≡ s) → Successors f n marks marks
+successors-none f n marks e = record { back = λ q h t. record { state = q; under = h; marked = t; leads = e q }; forth = λ s l t. rw (e s) t }
 
-image-then : (f g k : ℕ → ℕ) (n : ℕ) (a b c : List Bool) → ((s : ℕ) → g (f s) ≡ k s) → ((s : ℕ) → s < n → f s < n) → Image f n a b → Image g n b c → Image k n a c
-image-then f g k n a b c e cl x y = record {
+successors-then : (f g k : ℕ → ℕ) (n : ℕ) (a b c : List Bool) → ((s : ℕ) → g (f s) ≡ k s) → ((s : ℕ) → s < n → f s < n) → Successors f n a b → Successors g n b c → Successors k n a c
+successors-then f g k n a b c e cl x y = record {
   back = λ q h t.
       let u = y .back q h t in
       let w = x .back (u .state) (u .under) (u .marked) in
@@ -90,7 +87,7 @@ slice-more list from i h l =
 pub record Spreading (n nv : ℕ) (next list : List ℕ) (from : ℕ) (marks : List Bool) (i : ℕ) (current : List Bool) : Type 0 where
   pub start : from ≤ i
   pub ok : Each (λ v. v < nv) (slice from i list)
-  pub image : Image (λ s. run (nextOf nv next) s (slice from i list)) n marks current
+  pub successors : Successors (λ s. run (nextOf nv next) s (slice from i list)) n marks current
 
 module _ {n nv : ℕ} {next : List ℕ} (w : Leading n nv next) where
   -- the states stay below n
@@ -102,26 +99,16 @@ module _ {n nv : ℕ} {next : List ℕ} (w : Leading n nv next) where
     spread-start = record {
       start = omega arith;
       ok = rw (slice-empty from list) tt;
-      image = image-none (λ s. run (nextOf nv next) s (slice from from list)) n marks (λ s. rw (slice-empty from list));
+      successors = successors-none (λ s. run (nextOf nv next) s (slice from from list)) n marks (λ s. rw (slice-empty from list));
     }
 
-    pub spread-more : (i : ℕ) (current after : List Bool) (v : ℕ) → Spreading n nv next list from marks i current → i < length list → v ≡ getD list i 0 → v < nv → Image (λ s. getD next (s * nv + v) 0) n current after → Spreading n nv next list from marks (i + 1) after
+    pub spread-more : (i : ℕ) (current after : List Bool) (v : ℕ) → Spreading n nv next list from marks i current → i < length list → v ≡ getD list i 0 → v < nv → Successors (λ s. getD next (s * nv + v) 0) n current after → Spreading n nv next list from marks (i + 1) after
     spread-more i current after v g l ev hv m = record {
       start = omega (arith, g .start);
       ok = rw (slice-more list from i (g .start) l, ← ev) (each-append (λ x. x < nv) (slice from i list) (v ∷ []) (g .ok) (hv, tt));
-      image = image-then (λ s. run (nextOf nv next) s (slice from i list)) (λ s. getD next (s * nv + v) 0) (λ s. run (nextOf nv next) s (slice from (i + 1) list)) n marks current after
-          (λ s. rw (slice-more list from i (g .start) l, ← ev, run-append)) (λ s h. run-under s (slice from i list) h (g .ok)) (g .image) m;
+      successors = successors-then (λ s. run (nextOf nv next) s (slice from i list)) (λ s. getD next (s * nv + v) 0) (λ s. run (nextOf nv next) s (slice from (i + 1) list)) n marks current after
+          (λ s. rw (slice-more list from i (g .start) l, ← ev, run-append)) (λ s h. run-under s (slice from i list) h (g .ok)) (g .successors) m;
     }
-
-module _ (t : Tables) where
-  -- both designs run side by side
-  pub run-pair : (p : Pair) (l : List ℕ) → run (stepIn t) p l ≡ record { old = run (oldMachine t .next) (p .old) l; new = run (newMachine t .next) (p .new) l }
-  run-pair p [] = refl
-  run-pair p (v ∷ l) = run-pair (stepIn t p v) l
-
-  pub below-all : (l : List ℕ) → Each (Ok (t .sizes)) l → Each (λ v. v < t .sizes .vectors) l
-  below-all [] o = tt
-  below-all (v ∷ l) o = (o .0 .below, below-all l (o .1))
 
 -- the marks are those of the states in which one design may be after the list l, from any state below n
 pub record After (next : ℕ → ℕ → ℕ) (n : ℕ) (l : List ℕ) (marks : List Bool) : Type 0 where
@@ -131,7 +118,7 @@ pub record After (next : ℕ → ℕ → ℕ) (n : ℕ) (l : List ℕ) (marks : 
 pub after-none : (next : ℕ → ℕ → ℕ) (n : ℕ) → n ≤ 128 → After next n [] (replicate 128 true)
 after-none next n h = record { back = λ q l t. (q, l, refl); forth = λ s l. getD-replicate 128 s true false (omega arith) }
 
-pub after-more : (next : ℕ → ℕ → ℕ) (n : ℕ) (l m : List ℕ) (marks out : List Bool) → ((s : ℕ) → s < n → run next s l < n) → After next n l marks → Image (λ s. run next s m) n marks out → After next n (l ++ m) out
+pub after-more : (next : ℕ → ℕ → ℕ) (n : ℕ) (l m : List ℕ) (marks out : List Bool) → ((s : ℕ) → s < n → run next s l < n) → After next n l marks → Successors (λ s. run next s m) n marks out → After next n (l ++ m) out
 after-more next n l m marks out under a i = record {
   back = λ q h t.
       let u = i .back q h t in

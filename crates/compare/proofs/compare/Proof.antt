@@ -1,8 +1,8 @@
--- `compare_counting`: the tabulating call, and then the verdict on its tables.
+-- `compare`: the tabulating call, and then the verdict on its tables.
 use Rattle.compare.proofs.Comparison.{compared-both, refused-first}
 use borrow.Author.Needs.{needs}
-use Rattle.compare.proofs.compare_counting.Statement.{statement}
-use Rattle.compare.proofs.compare_counting.Tie as tie
+use Rattle.compare.proofs.compare.Statement.{statement}
+use Rattle.compare.proofs.compare.Tie as tie
 
 tabulate-both-requires : tie.Need-tabulate-both-requires
 tabulate-both-requires c κs = search needs
@@ -73,8 +73,8 @@ same-length-14 c = search needs
 returns-2 : tie.Need-returns-2
 returns-2 c = compared-both _ _ _ _ _ _ _ _ _ _ _ _ _ _ (rw (c .before .before .before .before .before .before .before .before .before .before .before .before .before .before .before .before .before .before .before .before .before .before .before .tabulated2 .given .1) at (c .before .before .before .before .before .before .before .before .before .before .before .before .before .before .before .before .before .before .before .before .before .before .before .before .before .before .before .before .before .before .before .before .before .tabulate-both .ensures)) (c .before .before .before .before .before .before .before .before .before .before .before .before .before .before .judge-or-clear .ensures)
 
-pub compare-counting-spec : {M : Type 1} → statement M
-compare-counting-spec =
+pub compare-spec : {M : Type 1} → statement M
+compare-spec =
     tie.close
     (tie.spec
     tabulate-both-requires

@@ -1,26 +1,23 @@
--- The lowest of 11, 12 and 13 that applies, and what a call that is not refused may rely on.
-use Prim.Native.Nat.{ℕ, _<_, _≤_, _*_}
+-- The lowest of 11, 12 and 13 that applies.
+use Prim.Native.Nat.{ℕ, _<_, _≤_}
 use mathlib.Core.List.{List}
 use native.Mathlib.Omega.{arith}
-use native.Mathlib.Decide.{decLt}
-use lib.ListN.{getD}
-use Rattle.numbers.proofs.Order.{not-lt, le-of-not-lt}
-use Rattle.memory.specs.Meaning.Refusals.{Free, FirstOrNone}
+use Rattle.numbers.proofs.Order.{not-lt}
+use Rattle.memory.specs.Meaning.Refusals.{FirstOrNone}
 use Rattle.memory.specs.Working.Lowest.{Numbered}
 use Rattle.memory.proofs.Refusals.{lowest-number, no-number}
 use Rattle.machine.specs.declared.Sizes.{Sizes}
-use Rattle.machine.specs.Meaning.Tables.{Tables, pairs}
-use Rattle.search.specs.Working.{Few}
+use Rattle.machine.specs.Meaning.Tables.{Tables}
 use Rattle.machine.specs.Meaning.Faults.{OutOfRange, TooShort, LeadsOut, leads, TablesFault}
-use Rattle.seek.specs.Working.Steps.{InRange, LongEnough, Stays, Good}
+use Rattle.table_faults.specs.Working.{InRange, LongEnough, Stays}
 
 range-no : {z : Sizes} → InRange z → OutOfRange z → ⊥
 range-no r (OutOfRange.old-none e) = omega (arith, r .some-old)
-range-no r (OutOfRange.old-many h) = omega (arith, r .few .few-old)
+range-no r (OutOfRange.old-many h) = omega (arith, r .few-old)
 range-no r (OutOfRange.new-none e) = omega (arith, r .some-new)
-range-no r (OutOfRange.new-many h) = omega (arith, r .few .few-new)
+range-no r (OutOfRange.new-many h) = omega (arith, r .few-new)
 range-no r (OutOfRange.vectors-none e) = omega (arith, r .some-vectors)
-range-no r (OutOfRange.vectors-many h) = omega (arith, r .few .few-vectors)
+range-no r (OutOfRange.vectors-many h) = omega (arith, r .few-vectors)
 
 long-no : {t : Tables} {room : ℕ} → LongEnough t room → TooShort t room → ⊥
 long-no r (TooShort.old-next h) = not-lt (r .old-next) h
@@ -81,38 +78,3 @@ module _ {t : Tables} {room : ℕ} where
       go (TablesFault.short o) = long-no l o
       go (TablesFault.old-leads o) = stays-no a o
       go (TablesFault.new-leads o) = stays-no b o
-
-  -- a call to which no number applies
-  module _ (none : Free (TablesFault t room)) where
-    few : Few (t .sizes)
-    few = record {
-      few-old = le-of-not-lt (λ h. none 11 (TablesFault.range (OutOfRange.old-many h)));
-      few-new = le-of-not-lt (λ h. none 11 (TablesFault.range (OutOfRange.new-many h)));
-      few-vectors = le-of-not-lt (λ h. none 11 (TablesFault.range (OutOfRange.vectors-many h)));
-    }
-
-    pub room-enough : pairs (t .sizes) ≤ room
-    room-enough = le-of-not-lt (λ h. none 12 (TablesFault.short (TooShort.lent h)))
-
-    stays : {s v : ℕ} {n : List ℕ} → (LeadsOut s v n → ⊥) → (i : ℕ) → i < s * v → getD n i 0 < s
-    stays {s} {v} {n} f i h = go (decLt (getD n i 0) s)
-      where
-        go : Dec (getD n i 0 < s) → getD n i 0 < s
-        go (yes a) = a
-        go (no a) = absurd (f (leads i h (omega arith)))
-
-    pub good : Good t
-    good = record {
-      nexts = record {
-        few = few;
-        long-old = le-of-not-lt (λ h. none 12 (TablesFault.short (TooShort.old-next h)));
-        long-new = le-of-not-lt (λ h. none 12 (TablesFault.short (TooShort.new-next h)));
-        next-old = stays (λ o. none 13 (TablesFault.old-leads o));
-        next-new = stays (λ o. none 13 (TablesFault.new-leads o));
-      };
-      outs = record {
-        few = few;
-        long-old = le-of-not-lt (λ h. none 12 (TablesFault.short (TooShort.old-out h)));
-        long-new = le-of-not-lt (λ h. none 12 (TablesFault.short (TooShort.new-out h)));
-      };
-    }

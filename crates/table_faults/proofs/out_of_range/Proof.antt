@@ -1,8 +1,8 @@
 -- `out_of_range`: each test is a reason.
 use Rattle.machine.specs.Meaning.Faults.{OutOfRange}
 use borrow.Author.Needs.{needs}
-use Rattle.seek.proofs.out_of_range.Statement.{statement}
-use Rattle.seek.proofs.out_of_range.Tie as tie
+use Rattle.table_faults.proofs.out_of_range.Statement.{statement}
+use Rattle.table_faults.proofs.out_of_range.Tie as tie
 
 returns : tie.Need-returns
 returns c = OutOfRange.old-none (c .if1 .taken)

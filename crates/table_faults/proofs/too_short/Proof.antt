@@ -3,16 +3,16 @@ use native.Mathlib.Omega.{arith}
 use native.Mathlib.Nat.{mul-le-mul}
 use Rattle.machine.specs.Meaning.Faults.{TooShort}
 use borrow.Author.Needs.{needs}
-use Rattle.seek.proofs.too_short.Statement.{statement}
-use Rattle.seek.proofs.too_short.Tie as tie
+use Rattle.table_faults.proofs.too_short.Statement.{statement}
+use Rattle.table_faults.proofs.too_short.Tie as tie
 
 mul-old : tie.Need-mul-old
 mul-old c =
-    omega (arith, mul-le-mul (c .before .pre .few .few-old) (c .before .pre .few .few-vectors))
+    omega (arith, mul-le-mul (c .before .pre .few-old) (c .before .pre .few-vectors))
 
 mul-new : tie.Need-mul-new
 mul-new c =
-    omega (arith, mul-le-mul (c .before .before .pre .few .few-new) (c .before .before .pre .few .few-vectors))
+    omega (arith, mul-le-mul (c .before .before .pre .few-new) (c .before .before .pre .few-vectors))
 
 returns : tie.Need-returns
 returns c = TooShort.old-next (c .if1 .taken)
@@ -28,7 +28,7 @@ returns-4 c = TooShort.new-out (c .if4 .taken)
 
 mul-if5 : tie.Need-mul-if5
 mul-if5 c =
-    omega (arith, mul-le-mul (c .before .before .before .before .before .before .before .pre .few .few-old) (c .before .before .before .before .before .before .before .pre .few .few-new))
+    omega (arith, mul-le-mul (c .before .before .before .before .before .before .before .pre .few-old) (c .before .before .before .before .before .before .before .pre .few-new))
 
 returns-5 : tie.Need-returns-5
 returns-5 c = TooShort.lent (c .if5 .taken)

@@ -1,12 +1,12 @@
--- `image`: each marked state marks the state to which it leads.
+-- `successors`: each marked state marks the state to which it leads.
 use native.Mathlib.Omega.{arith}
 use mathlib.Core.Path.{ap, _∙_}
 use Prim.Native.Nat.{ℕ, _≤_, _-_, _*_, _+_}
 use mathlib.Core.Logic.{⊎-elim}
 use lib.ListN.{getD}
-use Rattle.verdict.proofs.Images.{Partial, partial-start, partial-skip, partial-mark, partial-end}
-use Rattle.verdict.proofs.image.Statement.{statement}
-use Rattle.verdict.proofs.image.Tie as tie
+use Rattle.marks.proofs.Moving.{Partial, partial-start, partial-skip, partial-mark, partial-end}
+use Rattle.marks.proofs.successors.Statement.{statement}
+use Rattle.marks.proofs.successors.Tie as tie
 
 abbrev Inv-loop : tie.InvT-loop
 Inv-loop next states vectors v marks out₀ s₀ out s = (s ≤ states) × Partial (λ x. getD next (x * vectors + v) 0) marks s out
@@ -51,8 +51,8 @@ returns : tie.Need-returns Inv-loop μ-loop
 returns c =
     partial-end _ _ _ _ (c .before .loop .inv .1) _ (omega (arith, c .loop-test .left, c .before .loop .inv .0))
 
-pub image-spec : {M : Type 1} → statement M
-image-spec =
+pub successors-spec : {M : Type 1} → statement M
+successors-spec =
     tie.close
     (tie.spec
     Inv-loop

@@ -1,0 +1,110 @@
+// What turns a call away that takes the tables of two designs: sizes out of range, a slice too short, a next state that is no state.
+ghost use Prim.Native.Nat.{_*_, _≤_};
+ghost use lib.ListN.{length};
+ghost use Rattle.memory.specs.Meaning.Refusals.{FirstOrNone};
+ghost use Rattle.memory.specs.Working.Tests.{Splits};
+ghost use Rattle.machine.specs.Meaning.Tables.{bothTables};
+ghost use Rattle.machine.specs.Meaning.Faults.{OutOfRange, TooShort, LeadsOut, TablesFault};
+ghost use Rattle.table_faults.specs.Working.{InRange, LongEnough, Stays};
+use machine::Sizes;
+
+// The lowest number that applies to the tables and the lent slices of one entry a pair, or 0.
+pub fn call_fault(
+    old_next: &[u8],
+    old_out: &[u8],
+    new_next: &[u8],
+    new_out: &[u8],
+    sizes: Sizes,
+    room: usize,
+) -> u8
+    ensures { λ r. ⌜ FirstOrNone (TablesFault (bothTables sizes (now («old_next» .entry)) (now («old_out» .entry)) (now («new_next» .entry)) (now («new_out» .entry))) room) r ⌝ }
+{
+    if out_of_range(sizes) {
+        return 11;
+    }
+    if too_short(old_next, old_out, new_next, new_out, sizes, room) {
+        return 12;
+    }
+    if leads_out(old_next, sizes.old, sizes.vectors) {
+        return 13;
+    }
+    if leads_out(new_next, sizes.new, sizes.vectors) {
+        return 13;
+    }
+    0
+}
+
+// 11: S or V is out of range.
+fn out_of_range(sizes: Sizes) -> bool
+    ensures { λ r. ⌜ Splits r (OutOfRange sizes) (InRange sizes) ⌝ }
+{
+    if sizes.old == 0 {
+        return true;
+    }
+    if sizes.old > 128 {
+        return true;
+    }
+    if sizes.new == 0 {
+        return true;
+    }
+    if sizes.new > 128 {
+        return true;
+    }
+    if sizes.vectors == 0 {
+        return true;
+    }
+    if sizes.vectors > 64 {
+        return true;
+    }
+    false
+}
+
+// 12: a table, or the shortest of the slices of one entry a pair, is too short.
+fn too_short(
+    old_next: &[u8],
+    old_out: &[u8],
+    new_next: &[u8],
+    new_out: &[u8],
+    sizes: Sizes,
+    room: usize,
+) -> bool
+    requires { ⌜ InRange sizes ⌝ }
+    ensures { λ r. ⌜ Splits r (TooShort (bothTables sizes (now («old_next» .entry)) (now («old_out» .entry)) (now («new_next» .entry)) (now («new_out» .entry))) room) (LongEnough (bothTables sizes (now («old_next» .entry)) (now («old_out» .entry)) (now («new_next» .entry)) (now («new_out» .entry))) room) ⌝ }
+{
+    let old = sizes.old * sizes.vectors;
+    let new = sizes.new * sizes.vectors;
+    if old_next.len() < old {
+        return true;
+    }
+    if old_out.len() < old {
+        return true;
+    }
+    if new_next.len() < new {
+        return true;
+    }
+    if new_out.len() < new {
+        return true;
+    }
+    if room < sizes.old * sizes.new {
+        return true;
+    }
+    false
+}
+
+// 13: a next state is not below the number of states.
+fn leads_out(next: &[u8], states: usize, vectors: usize) -> bool
+    requires { ⌜ states ≤ 128 ⌝ }
+    requires { ⌜ vectors ≤ 64 ⌝ }
+    requires { ⌜ states * vectors ≤ length (now next) ⌝ }
+    ensures { λ r. ⌜ Splits r (LeadsOut states vectors (now (next .entry))) (Stays states vectors (now (next .entry))) ⌝ }
+{
+    let end = states * vectors;
+    let mut i = 0;
+    while i < end {
+        if next[i] as usize >= states {
+            return true;
+        }
+        i += 1;
+    }
+    false
+}
