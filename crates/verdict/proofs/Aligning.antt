@@ -4,7 +4,7 @@ use mathlib.Core.Bool.{Bool, true, false}
 use mathlib.Core.List.{List, [], _∷_, _++_}
 use Prim.Native.Nat.{ℕ, _<_, _≤_, _+_, _-_}
 use native.Mathlib.Omega.{arith}
-use lib.Dec.{eqb}
+use lib.Dec.{eqb, eqb-refl, eqb→eq}
 use lib.ListN.{length, getD, take, replicate, length-append}
 use lib.Seq.{slice, length-take-le}
 use Rattle.numbers.proofs.Order.{stable}
@@ -12,25 +12,36 @@ use Rattle.memory.specs.Meaning.Slices.{Zero, Cleared}
 use Rattle.memory.proofs.Slices.{zero-unique}
 use Rattle.machine.specs.declared.Found.{Found}
 use Rattle.machine.specs.declared.Pair.{Pair}
+use Rattle.machine.specs.declared.Prior.{Prior}
 use Rattle.machine.specs.declared.Sizes.{Sizes}
 use Rattle.machine.specs.Meaning.Lists.{Each, run}
 use Rattle.machine.specs.Meaning.Machine.{Machine}
-use Rattle.machine.specs.Meaning.Tables.{Tables, pairs, number, at, In, Ok, oldMachine, newMachine, AlikeIn}
-use Rattle.machine.specs.Meaning.Verdict.{May, LowestOpen, Rounds, done, more}
-use Rattle.machine.specs.Working.Pairs.{pairAt, stepIn}
+use Rattle.machine.specs.Meaning.Pick.{after}
+use Rattle.machine.specs.Meaning.Tables.{Tables, bothTables, pairs, number, at, In, Ok, oldMachine, newMachine, AlikeIn}
+use Rattle.machine.specs.Meaning.Verdict.{May, LowestOpen, Rounds, done, more, AllAlign}
+use Rattle.machine.specs.Working.Pairs.{pairAt, stepIn, ListAfterIn}
 use Rattle.machine.proofs.Lists.{each-append}
+use Rattle.machine.proofs.Maps.{goal-of-one, one-of-goal}
 use Rattle.machine.proofs.Numbers.{same-pair, pair-number, number-in, pairAt-in, number-pair}
 use Rattle.machine.proofs.Finding.{Test}
-use Rattle.machine.proofs.Telling.{alike-test}
 use Rattle.machine.proofs.Verdict.{may-in, rounds-extend}
 use Rattle.machine.proofs.Ending.{unaligned, unaligned-falls, rounds-exist}
 use Rattle.search.specs.Working.{LowestBelow}
 use Rattle.seek.specs.Working.Steps.{Outcome, short, steps}
-use Rattle.seek.proofs.Sets.{inside, alike-of-zero, zero-of-alike}
+use Rattle.seek.proofs.Sets.{inside}
+use Rattle.seek.proofs.Lists.{listed, reached}
 use Rattle.marks.specs.Working.{Leading, Successors}
 use Rattle.marks.proofs.Moving.{After, after-none, after-more, run-under}
-use Rattle.verdict.specs.Working.Deciding.{AllAlignIn, SameIn, OpenAt, Mapped, Added, Appended, added, full}
+use Rattle.verdict.specs.Working.Deciding.{SameIn, OpenAt, Reached, Follows, Added, Appended, added, full}
 use Rattle.verdict.proofs.Parts.{slice-at}
+
+-- how many pairs of power-up states a list does not lead to a pair for which the map holds 1; outputs play no part in it
+abbrev pub open-pairs : Sizes → List ℕ → List ℕ → List ℕ → List ℕ → ℕ
+open-pairs z next0 next1 reach l = unaligned (oldMachine (bothTables z next0 [] next1 [])) (newMachine (bothTables z next0 [] next1 [])) z (λ p. eqb (at z reach p) 1) l
+
+same-open : (t : Tables) (reach l : List ℕ) → unaligned (oldMachine t) (newMachine t) (t .sizes) (λ p. eqb (at (t .sizes) reach p) 1) l ≡ open-pairs (t .sizes) (t .old-next) (t .new-next) reach l
+unfolding unaligned
+same-open t reach l = refl
 
 module _ (t : Tables) where
   abbrev z : Sizes
@@ -61,7 +72,7 @@ module _ (t : Tables) where
     pub joins : (r : List ℕ) → Rounds m0 m1 z r (take len list) → Rounds m0 m1 z r []
     pub rest : (i : ℕ) → len ≤ i → getD list i 0 ≡ getD list₀ i 0
 
-  module _ {depth reach : List ℕ} (m : Mapped t depth reach) where
+  module _ {reach : List ℕ} (m : Reached t reach) where
     pub leading-old : Leading (z .old) (z .vectors) (t .old-next)
     leading-old = let n = m .good .nexts in record { few = n .few .few-old; few-vectors = n .few .few-vectors; long = n .long-old; stays = n .next-old }
 
@@ -79,8 +90,18 @@ module _ (t : Tables) where
       rest = λ i h. refl;
     }
 
-    tells : Test (In z) (AlikeIn t) (λ p. eqb (at z depth p) 0)
-    tells = alike-test m0 m1 (Ok z) (In z) (at z depth) (m .both .apart .map)
+    -- the ones of the map are the alike pairs
+    alike-one : (p : Pair) → In z p → at z reach p ≡ 1 → AlikeIn t p
+    alike-one = goal-of-one (stepIn t) (Ok z) (AlikeIn t) (In z) (inside t (m .good)) (at z reach) (m .alike .map)
+
+    one-alike : (p : Pair) → In z p → AlikeIn t p → at z reach p ≡ 1
+    one-alike = one-of-goal (stepIn t) (Ok z) (AlikeIn t) (In z) (inside t (m .good)) (at z reach) (m .alike .map)
+
+    tells : Test (In z) (AlikeIn t) (λ p. eqb (at z reach p) 1)
+    tells = record { sound = λ p i x. alike-one p i (eqb→eq (at z reach p) 1 x); full = λ p i a. rw (one-alike p i a) (eqb-refl 1) }
+
+    all : AllAlign m0 m1 z
+    all = record { all = λ p i. let s = m .some p i in reached t (m .good) (m .alike) p i (λ e. omega arith) }
 
     module _ {list₀ list : List ℕ} {len : ℕ} {marks0 marks1 : List Bool} (w : Aligning list₀ list len marks0 marks1) where
       -- the pairs in which the designs may be are the pairs of marked states
@@ -100,17 +121,17 @@ module _ (t : Tables) where
       may-inside : (q : Pair) → May m0 m1 z (take len list) q → In z q
       may-inside q y = may-in m0 m1 z (inside t (m .good)) (take len list) (w .ok) q y
 
-      module _ {i : ℕ} (s : LowestBelow (OpenAt z marks0 marks1 depth) (pairs z) i) where
+      module _ {i : ℕ} (s : LowestBelow (OpenAt z marks0 marks1 reach) (pairs z) i) where
         -- a pair below the one that the scan found is alike
         below : (q : Pair) → May m0 m1 z (take len list) q → number z q < i → AlikeIn t q
-        below q y h = alike-of-zero t (m .good) (m .both .apart) q iq (stable (at z depth q) 0 (λ n. s .below (number z q) h (record { mark0 = ap (λ (x : Pair). getD marks0 (x .old) false) (pair-number z q iq) ∙ marked q y .0; mark1 = ap (λ (x : Pair). getD marks1 (x .new) false) (pair-number z q iq) ∙ marked q y .1; apart = n })))
+        below q y h = alike-one q iq (stable (at z reach q) 1 (λ n. s .below (number z q) h (record { mark0 = ap (λ (x : Pair). getD marks0 (x .old) false) (pair-number z q iq) ∙ marked q y .0; mark1 = ap (λ (x : Pair). getD marks1 (x .new) false) (pair-number z q iq) ∙ marked q y .1; apart = n })))
           where
             iq : In z q
             iq = may-inside q y
 
         -- every pair is alike: the rounds are done
-        pub aligned : AllAlignIn t → i ≡ pairs z → Outcome ⊥ (SameIn t) list₀ list (Found.Steps len)
-        aligned all e = steps (λ x. x) len (omega (arith, w .long, w .under)) (record { all = all; rounds = w .joins (take len list) (done refl (λ q y. below q y (omega (arith, number-in z q (may-inside q y))))) }) (w .rest)
+        pub aligned : i ≡ pairs z → Outcome ⊥ (SameIn t) list₀ list (Found.Steps len)
+        aligned e = steps (λ x. x) len (omega (arith, w .long, w .under)) (record { all = all; rounds = w .joins (take len list) (done refl (λ q y. below q y (omega (arith, number-in z q (may-inside q y))))) }) (w .rest)
 
         -- the pair p that the scan found
         module _ {end : ℕ} (n : i ≡ end → ⊥) (e : end ≡ pairs z) where
@@ -129,39 +150,47 @@ module _ (t : Tables) where
                 let f = s .found found-under in
                 record {
                   may = may p ins (ap (λ (x : Pair). getD marks0 (x .old) false) q ∙ f .mark0) (ap (λ (x : Pair). getD marks1 (x .new) false) q ∙ f .mark1);
-                  open′ = λ a. f .apart (sym (ap (λ (x : ℕ). getD depth x 0) numbered) ∙ zero-of-alike t (m .good) (m .both .apart) p ins a);
+                  open′ = λ a. f .apart (sym (ap (λ (x : ℕ). getD reach x 0) numbered) ∙ one-alike p ins a);
                   lower = λ x y l. below x y (omega (arith, numbered));
                 }
 
-            -- no room for this pair's list: the list of the rounds is no shorter than what is written and this
-            pub no-room : AllAlignIn t → Zero list₀ → {on cleared : List ℕ} {k : ℕ} → Appended t p len list on (Found.Refused k) → length on ≡ length list → Cleared (length on) cleared → Outcome ⊥ (SameIn t) list₀ cleared (Found.Refused 16)
-            no-room all o (full part f l) k c =
-                let r = rounds-exist m0 m1 z (inside t (m .good)) all (take len list ++ part) (each-append (Ok z) (take len list) part (w .ok) (f .shortest .has .allowed)) in
-                short (λ x. x) (r .0) (record { all = all; rounds = w .joins (r .0) (more p lowest part f (r .1)) })
+            -- what follows is the list of this pair
+            its-list : {l : List ℕ} → Follows z (t .old-next) (t .new-next) reach p list len l → ListAfterIn t (after Prior.Start (take len list)) p l
+            its-list = listed t (m .good) (m .alike) p ins
+
+            -- no room for it: the list of the rounds is no shorter than what is written and this
+            pub no-room : Zero list₀ → {on cleared : List ℕ} {k : ℕ} → Appended (Follows z (t .old-next) (t .new-next) reach p list len) len list on (Found.Refused k) → length on ≡ length list → Cleared (length on) cleared → Outcome ⊥ (SameIn t) list₀ cleared (Found.Refused 16)
+            no-room o (full part f l) k c =
+                let w′ = its-list f in
+                let r = rounds-exist m0 m1 z (inside t (m .good)) all (take len list ++ part) (each-append (Ok z) (take len list) part (w .ok) (w′ .shortest .has .allowed)) in
+                short (λ x. x) (r .0) (record { all = all; rounds = w .joins (r .0) (more p lowest part w′ (r .1)) })
                 (omega (arith, rounds-extend m0 m1 z (r .0) (take len list ++ part) (r .1), length-append (take len list) part, length-take-le len list (w .under), w .long))
                 (zero-unique _ list₀ (c .size ∙ k ∙ w .long) (c .zero) o)
 
-            module _ {on : List ℕ} {k : ℕ} (a : Added t p len list on k) where
+            module _ {on : List ℕ} {k : ℕ} (a : Added (Follows z (t .old-next) (t .new-next) reach p list len) len list on k) where
               pub added-fits : len + k ≤ length on
               added-fits = omega (arith, a .fits, a .long)
 
-              pub part-below : (j : ℕ) → len ≤ j → j < len + k → getD on j 0 < z .vectors
-              part-below = slice-at (λ v. v < z .vectors) on len (len + k) added-fits (rw (a .slices) (below-all (a .part) (a .its-list .shortest .has .allowed)))
+              listed-part : ListAfterIn t (after Prior.Start (take len list)) p (a .part)
+              listed-part = its-list (a .sought)
 
-              pub falls : unaligned m0 m1 z (λ p. eqb (at z depth p) 0) (take (len + k) on) < unaligned m0 m1 z (λ p. eqb (at z depth p) 0) (take len list)
-              falls = rw (a .joins) (unaligned-falls m0 m1 z (inside t (m .good)) (λ p. eqb (at z depth p) 0) tells (take len list) (a .part) (w .ok) p (lowest .may) (lowest .open′) (a .its-list .shortest .has))
+              pub part-below : (j : ℕ) → len ≤ j → j < len + k → getD on j 0 < z .vectors
+              part-below = slice-at (λ v. v < z .vectors) on len (len + k) added-fits (rw (a .slices) (below-all (a .part) (listed-part .shortest .has .allowed)))
+
+              pub falls : open-pairs z (t .old-next) (t .new-next) reach (take (len + k) on) < open-pairs z (t .old-next) (t .new-next) reach (take len list)
+              falls = rw (← same-open t reach (take (len + k) on), ← same-open t reach (take len list), a .joins) (unaligned-falls m0 m1 z (inside t (m .good)) (λ p. eqb (at z reach p) 1) tells (take len list) (a .part) (w .ok) p (lowest .may) (lowest .open′) (listed-part .shortest .has))
 
               pub aligning-more : {next0 next1 : List Bool} → Successors (λ x. run (m0 .next) x (slice len (len + k) on)) (z .old) marks0 next0 → Successors (λ x. run (m1 .next) x (slice len (len + k) on)) (z .new) marks1 next1 → Aligning list₀ on (len + k) next0 next1
               aligning-more {next0} {next1} i0 i1 = record {
                 long = a .long ∙ w .long;
                 under = added-fits;
-                ok = rw (a .joins) (each-append (Ok z) (take len list) (a .part) (w .ok) (a .its-list .shortest .has .allowed));
+                ok = rw (a .joins) (each-append (Ok z) (take len list) (a .part) (w .ok) (listed-part .shortest .has .allowed));
                 after0 = rw (a .joins) (after-more (m0 .next) (z .old) (take len list) (a .part) marks0 next0 (λ s b. run-under leading-old s (take len list) b (below-all (take len list) (w .ok))) (w .after0) (rw (a .slices) at i0));
                 after1 = rw (a .joins) (after-more (m1 .next) (z .new) (take len list) (a .part) marks1 next1 (λ s b. run-under leading-new s (take len list) b (below-all (take len list) (w .ok))) (w .after1) (rw (a .slices) at i1));
-                joins = rw (a .joins) (λ r x. w .joins r (more p lowest (a .part) (a .its-list) x));
+                joins = rw (a .joins) (λ r x. w .joins r (more p lowest (a .part) listed-part x));
                 rest = λ j l. a .rest j l ∙ w .rest j (omega arith);
               }
 
 -- what was appended
-pub its-part : {t : Tables} {p : Pair} {len : ℕ} {list list′ : List ℕ} {n : ℕ} → Appended t p len list list′ (Found.Steps n) → Added t p len list list′ n
+pub its-part : {Sought : List ℕ → Type 0} {len : ℕ} {list list′ : List ℕ} {n : ℕ} → Appended Sought len list list′ (Found.Steps n) → Added Sought len list list′ n
 its-part (added n a) = a

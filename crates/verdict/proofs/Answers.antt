@@ -25,7 +25,7 @@ use Rattle.seek.specs.Working.Steps as E
 use Rattle.seek.proofs.Sets.{inside}
 use Rattle.verdict.specs.declared.Verdict.{Verdict}
 use Rattle.verdict.specs.Meaning.Decision.{ShortList, short}
-use Rattle.verdict.specs.Working.Deciding.{AllAlignIn, SameIn, LowestZero, Mapped, Settled}
+use Rattle.verdict.specs.Working.Deciding.{SameIn, LowestZero, Mapped, Reached, Settled}
 
 module _ (t : Tables) where
   abbrev z : Sizes
@@ -54,9 +54,9 @@ module _ (t : Tables) where
           go q i l (inr (inl a)) = s .row h q i a (omega (arith, ap (λ (x : ℕ). x * z .new) a))
           go q i l (inr (inr a)) = absurd (omega (arith, digits-lt {q = r .old} {m = q .old} {r = r .new} {c = z .new} a (s .found h .0 .in-new)))
 
-      -- the scan passed all pairs: each is alignable
-      pub all-align : z .old ≤ r .old → AllAlignIn t
-      all-align h = record { all = λ p i. alignable-of-some p i (s .rows p i (omega (arith, i .in-old))) }
+      -- the scan passed all pairs: the map holds 0 for none
+      pub all-reached : z .old ≤ r .old → Reached t reach
+      all-reached h = record { good = m .good; room = m .reach-room; alike = m .both .alike; some = λ p i. s .rows p i (omega (arith, i .in-old)) }
 
   -- 16 applies where the list is longer than the slice, and nothing where it fits
   too-long : {n : ℕ} (l : List ℕ) → VerdictList m0 m1 z l → n < length l → First (ShortList m0 m1 z n) 16

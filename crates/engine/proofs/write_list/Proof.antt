@@ -1,5 +1,6 @@
 -- `write_list`: what is found by the map to alike pairs.
 use borrow.Author.Needs.{needs}
+use Rattle.seek.proofs.Lists.{ready, outcome}
 use Rattle.engine.proofs.write_list.Statement.{statement}
 use Rattle.engine.proofs.write_list.Tie as tie
 
@@ -7,7 +8,8 @@ map-both-requires : tie.Need-map-both-requires
 map-both-requires c κs = search needs
 
 find-list-requires : tie.Need-find-list-requires
-find-list-requires c κs = (c .before .before .before .before .before .before .before .before .before .before .before .before .before .before .before .before .pre .0, (search needs, (c .before .before .before .before .before .before .map-both .ensures .alike, c .before .before .before .before .before .before .before .before .before .before .before .before .before .before .before .before .pre .1 .1)))
+find-list-requires c κs =
+    (record { nexts = c .before .before .before .before .before .before .before .before .before .before .before .before .before .before .before .before .pre .0 .nexts; room = search needs }, (ready _ (c .before .before .before .before .before .before .before .before .before .before .before .before .before .before .before .before .pre .0) (c .before .before .before .before .before .before .map-both .ensures .alike), c .before .before .before .before .before .before .before .before .before .before .before .before .before .before .before .before .pre .1 .1))
 
 clear-scratch-requires : tie.Need-clear-scratch-requires
 clear-scratch-requires c κs = search needs
@@ -22,7 +24,7 @@ same-length-3 : tie.Need-same-length-3
 same-length-3 c = search needs
 
 returns : tie.Need-returns
-returns c = (c .before .before .before .before .before .before .before .before .before .find-list .ensures, (search needs, search needs))
+returns c = (outcome _ (c .before .before .before .before .before .before .before .before .before .before .before .before .before .before .before .before .before .before .before .before .before .before .before .before .before .before .pre .0) (c .before .before .before .before .before .before .before .before .before .before .before .before .before .before .before .before .map-both .ensures .alike) _ (c .before .before .before .before .before .before .before .before .before .before .before .before .before .before .before .before .before .before .before .before .before .before .before .before .before .before .pre .1 .1) (c .before .before .before .before .before .before .before .before .before .find-list .ensures), (search needs, search needs))
 
 pub write-list-spec : {M : Type 1} → statement M
 write-list-spec =

@@ -3,6 +3,7 @@
 --   MapFor t G d                   the map d is right for the set G
 --   MapOf t G d r                  and r is the number of the first round that adds nothing
 --   Both t depth reach             depth is the map to pairs that show different outputs, and reach the map to alike pairs
+--   ListTo z n0 n1 d s p l         l is the list picked from the pair p to a pair for which the map d holds 1, where s comes before it
 --   Outcome Absent Sought l l′ r   what a helper that seeks a list leaves in the slice l′, which held l
 use mathlib.Core.Path.{_≡_}
 use mathlib.Core.List.{List}
@@ -10,10 +11,14 @@ use Prim.Native.Nat.{ℕ, _<_, _≤_}
 use lib.ListN.{length, getD, take}
 use Rattle.machine.specs.declared.Found.{Found}
 use Rattle.machine.specs.declared.Pair.{Pair}
+use Rattle.machine.specs.declared.Prior.{Prior}
+use Rattle.machine.specs.declared.Sizes.{Sizes}
+use Rattle.machine.specs.Meaning.Lists.{Leads}
+use Rattle.machine.specs.Meaning.Pick.{IsPicked}
 use Rattle.machine.specs.Meaning.Tables.{Tables, at, In, Ok, AlikeIn}
 use Rattle.machine.specs.Working.Maps.{Complete, FirstStill}
 use Rattle.machine.specs.Working.Pairs.{DiffersIn, stepIn}
-use Rattle.search.specs.Working.{Nexts, Outs}
+use Rattle.search.specs.Working.{move, Nexts, Outs, Ones}
 
 pub record Good (t : Tables) : Type 0 where
   pub nexts : Nexts (t .sizes) (t .old-next) (t .new-next)
@@ -29,6 +34,9 @@ pub record MapOf (t : Tables) (Goal : Pair → Type 0) (d : List ℕ) (r : ℕ) 
 pub record Both (t : Tables) (depth reach : List ℕ) : Type 0 where
   pub apart : MapFor t (DiffersIn t) depth
   pub alike : MapFor t (AlikeIn t) reach
+
+abbrev pub ListTo : Sizes → List ℕ → List ℕ → List ℕ → Prior → Pair → List ℕ → Type 0
+ListTo z next0 next1 d s p l = IsPicked s (Leads (move z next0 next1) (Ok z) (Ones z d) p) l
 
 -- nothing where there is none or no room, or the list
 pub data Outcome (Absent : Type 0) (Sought : List ℕ → Type 0) (list list′ : List ℕ) : Found → Type 0 where

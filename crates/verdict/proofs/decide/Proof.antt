@@ -1,5 +1,5 @@
 -- `decide`: by the scan for a pair that is not alignable, its trace, or the list of the rounds.
-use Rattle.verdict.proofs.Answers.{apart-of, all-align, settled-apart, settled-same, settled-no-trace, settled-no-list}
+use Rattle.verdict.proofs.Answers.{apart-of, all-reached, settled-apart, settled-same, settled-no-trace, settled-no-list}
 use borrow.Author.Needs.{needs}
 use Rattle.verdict.proofs.decide.Statement.{statement}
 use Rattle.verdict.proofs.decide.Tie as tie
@@ -33,7 +33,7 @@ returns-2 c =
 
 align-requires : tie.Need-align-requires
 align-requires c κs =
-    (c .before .before .before .before .before .before .before .before .before .before .before .before .pre .0, (all-align _ (c .before .before .before .before .before .before .before .before .before .before .before .before .pre .0) (c .before .before .before .before .lowest-zero .ensures) (c .before .if1 .left), c .before .before .before .before .before .before .before .before .before .before .before .before .pre .1))
+    (record { out0 = _; out1 = _; reached = all-reached _ (c .before .before .before .before .before .before .before .before .before .before .before .before .pre .0) (c .before .before .before .before .lowest-zero .ensures) (c .before .if1 .left) }, c .before .before .before .before .before .before .before .before .before .before .before .before .pre .1)
 
 enum-known-found-2 : tie.Need-enum-known-found-2
 enum-known-found-2 c = search needs
@@ -46,14 +46,14 @@ same-length-3 c = search needs
 
 returns-3 : tie.Need-returns-3
 returns-3 c =
-    settled-no-list _ (c .before .before .before .before .before .before .before .before .before .before .before .before .before .before .before .before .before .pre .1) (rw (c .enum-told2 .given .1) at (c .before .before .before .before .align .ensures))
+    settled-no-list _ (c .before .before .before .before .before .before .before .before .before .before .before .before .before .before .before .before .before .pre .1) ((rw (c .enum-told2 .given .1) at (c .before .before .before .before .align .ensures)) .each _ _ (all-reached _ (c .before .before .before .before .before .before .before .before .before .before .before .before .before .before .before .before .before .pre .0) (c .before .before .before .before .before .before .before .before .before .lowest-zero .ensures) (c .before .before .before .before .before .before .if1 .left)))
 
 same-length-4 : tie.Need-same-length-4
 same-length-4 c = search needs
 
 returns-4 : tie.Need-returns-4
 returns-4 c =
-    settled-same _ (c .before .before .before .before .before .before .before .before .before .before .before .before .before .before .before .before .before .before .pre .0 .good) (c .before .before .before .before .before .before .before .before .before .before .before .before .before .before .before .before .before .before .pre .1) (c .before .before .before .before .before .align .kept .1 .1 .1 .1 .1 .1 .1 .0) (rw (c .before .found2 .given .1) at (c .before .before .before .before .before .align .ensures))
+    settled-same _ (c .before .before .before .before .before .before .before .before .before .before .before .before .before .before .before .before .before .before .pre .0 .good) (c .before .before .before .before .before .before .before .before .before .before .before .before .before .before .before .before .before .before .pre .1) (c .before .before .before .before .before .align .kept .1 .1 .1 .1 .0) ((rw (c .before .found2 .given .1) at (c .before .before .before .before .before .align .ensures)) .each _ _ (all-reached _ (c .before .before .before .before .before .before .before .before .before .before .before .before .before .before .before .before .before .before .pre .0) (c .before .before .before .before .before .before .before .before .before .before .lowest-zero .ensures) (c .before .before .before .before .before .before .before .if1 .left)))
 
 pub decide-spec : {M : Type 1} → statement M
 decide-spec =
