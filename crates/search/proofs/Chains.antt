@@ -1,5 +1,5 @@
 -- Chains of states: how they are walked, and the chains of the states that a vector leads to each state.
-use mathlib.Core.Path.{_≡_, refl, sym, ap, _∙_}
+use mathlib.Core.Path.{_≡_, sym, _∙_}
 use mathlib.Core.Logic.{_⊎_, inl, inr, ⊎-elim}
 use mathlib.Core.List.{List}
 use Prim.Native.Nat.{ℕ, zero, suc, _<_, _≤_, _+_, _-_, _*_}
@@ -8,7 +8,7 @@ use borrow.Author.Count.{below-more}
 use lib.ListN.{length, getD, set, length-set, replicate, length-replicate, getD-replicate}
 use lib.Seq.{getD-set-same, getD-set-other}
 use Rattle.numbers.proofs.Order.{tri}
-use Rattle.search.specs.Working.{Table, LastBelow, Inverts, On, here, there, Chain, Chains}
+use Rattle.search.specs.Working.{LastBelow, Inverts, On, here, there, Chain, Chains}
 
 -- the walk along the chain from x₀ has come to x: what it has passed are the states from x on
 pub record Along (link : List ℕ) (n x₀ x : ℕ) : Type 0 where
@@ -24,9 +24,6 @@ module _ {link : List ℕ} {n x₀ : ℕ} (c : Chain link n x₀) where
 
   pub along-start : Along link n x₀ x₀
   along-start = record { most = c .begins; part = λ s o. o; rest = λ s o l. o }
-
-  pub along-end : {x : ℕ} → (0 < x → ⊥) → (s : ℕ) → x ≤ s
-  along-end h s = omega arith
 
   module _ {x : ℕ} (a : Along link n x₀ x) (l : 0 < x) where
     pub along-inside : x - 1 < n

@@ -5,7 +5,6 @@ use mathlib.Core.Bool.{Bool, true, false, false≢true}
 use mathlib.Core.List.{List}
 use Prim.Native.Nat.{ℕ, suc, _<_, _≤_, _+_}
 use native.Mathlib.Omega.{arith}
-use native.Mathlib.Numerals.{add-one}
 use lib.Dec.{eqb, eqb→eq, eqb-refl}
 use lib.ListN.{length, getD, set, length-set}
 use lib.Seq.{getD-set-same, getD-set-other}
@@ -19,7 +18,7 @@ use Rattle.numbers.proofs.Counting.{count-le, count-change}
 use Rattle.numbers.proofs.Order.{tri}
 use Rattle.search.specs.Working.{Open, Met}
 
-pub zeros-set : (d : List ℕ) (n i x : ℕ) → i < n → i < length d → getD d i 0 ≡ 0 → 0 < x → countOf 0 d n ≡ suc (countOf 0 (set d i x) n)
+zeros-set : (d : List ℕ) (n i x : ℕ) → i < n → i < length d → getD d i 0 ≡ 0 → 0 < x → countOf 0 d n ≡ suc (countOf 0 (set d i x) n)
 zeros-set d n i x h l z p =
     count-change (λ j. eqb (getD (set d i x) j 0) 0) (λ j. eqb (getD d j 0) 0) n i h
     (λ t. omega (arith, eqb→eq (getD (set d i x) i 0) 0 t, getD-set-same d i x 0 l))

@@ -1,19 +1,17 @@
 -- The loops of a round: along chains, over the pairs of a batch, over the vectors, and over the batches.
-use mathlib.Core.Path.{_≡_, refl, sym, ap, _∙_, subst}
+use mathlib.Core.Path.{_≡_, sym, ap, _∙_, subst}
 use mathlib.Core.Logic.{_⊎_, inl, inr, ⊎-elim}
-use mathlib.Core.Bool.{Bool, true, false}
+use mathlib.Core.Bool.{Bool, false}
 use mathlib.Core.List.{List}
-use Prim.Native.Nat.{ℕ, _<_, _≤_, _+_, _-_, _*_, _/_, _%_}
+use Prim.Native.Nat.{ℕ, _<_, _≤_, _+_, _-_, _/_, _%_}
 use native.Mathlib.Omega.{arith}
 use native.Mathlib.Numerals.{add-one}
-use lib.ListN.{length, getD, set, length-set, replicate, length-replicate, getD-replicate}
-use lib.Seq.{getD-set-same, getD-set-other}
-use borrow.Author.Count.{below-more}
+use lib.ListN.{length, getD, replicate, length-replicate}
 use Rattle.machine.specs.declared.Pair.{Pair}
 use Rattle.machine.specs.declared.Sizes.{Sizes}
-use Rattle.machine.specs.Meaning.Tables.{entry, pairs, number, at, In, Ok}
+use Rattle.machine.specs.Meaning.Tables.{pairs, number, at, In}
 use Rattle.machine.specs.Working.Pairs.{pairAt}
-use Rattle.machine.proofs.Numbers.{same-pair, number-in, number-pair, pair-number, pairAt-in, at-pair}
+use Rattle.machine.proofs.Numbers.{same-pair, number-in, number-pair, pair-number, pairAt-in}
 use Rattle.numbers.proofs.Order.{tri}
 use Rattle.search.specs.Working.{move, Nexts, Listed, Inverts, On, Chain, Chains, Open, Met, Numbers, Gathered, Before, Into, Unmarked, Rounded}
 use Rattle.search.proofs.Cells.{closed}

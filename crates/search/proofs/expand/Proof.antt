@@ -11,10 +11,10 @@ use Rattle.search.proofs.expand.Statement.{statement}
 use Rattle.search.proofs.expand.Tie as tie
 
 abbrev Inv-loop : tie.InvT-loop
-Inv-loop old-next new-next sizes map₀ k batch count rows₀ fresh₀ v₀ map rows fresh v = (v ≤ sizes .vectors) × Met sizes k (Into sizes old-next new-next v (Listed batch count)) map₀ map rows₀ rows fresh
+Inv-loop old-next new-next sizes map₀ k batch count rows₀ fresh₀ vector₀ map rows fresh vector = (vector ≤ sizes .vectors) × Met sizes k (Into sizes old-next new-next vector (Listed batch count)) map₀ map rows₀ rows fresh
 
 abbrev μ-loop : tie.MeasureT-loop
-μ-loop old-next new-next sizes map₀ k batch count rows₀ fresh₀ v₀ map rows fresh v = sizes .vectors - v
+μ-loop old-next new-next sizes map₀ k batch count rows₀ fresh₀ vector₀ map rows fresh vector = sizes .vectors - vector
 
 loop-holds : tie.Need-loop-holds Inv-loop μ-loop
 loop-holds c = (omega arith, into-start)
@@ -31,8 +31,8 @@ meet-all-requires c κs = (met-open (c .before .before .before .before .before .
 add-fresh : tie.Need-add-fresh Inv-loop μ-loop
 add-fresh c = omega (arith, met-few (c .before .before .before .before .before .before .before .before .before .loop .inv .1), met-few (c .before .before .meet-all .ensures), few-pairs (c .before .before .before .before .before .before .before .before .before .before .before .before .before .pre .0 .few))
 
-add-v : tie.Need-add-v Inv-loop μ-loop
-add-v c = omega (arith, c .before .before .before .before .before .before .before .if1 .taken, c .before .before .before .before .before .before .before .before .before .before .before .before .before .pre .0 .few .few-vectors)
+add-vector : tie.Need-add-vector Inv-loop μ-loop
+add-vector c = omega (arith, c .before .before .before .before .before .before .before .if1 .taken, c .before .before .before .before .before .before .before .before .before .before .before .before .before .pre .0 .few .few-vectors)
 
 loop-less : tie.Need-loop-less Inv-loop μ-loop
 loop-less c = omega (arith, c .before .before .before .before .before .before .before .if1 .taken)
@@ -57,7 +57,7 @@ expand-spec =
     invert-requires-2
     meet-all-requires
     add-fresh
-    add-v
+    add-vector
     loop-less
     loop-again
     same-length

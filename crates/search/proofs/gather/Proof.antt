@@ -1,5 +1,4 @@
 -- `gather`: the pairs, one after the other; a row that is not marked is stepped over.
-use mathlib.Core.Path.{sym, _∙_}
 use mathlib.Core.Logic.{inl, inr, ⊎-elim}
 use Prim.Native.Nat.{_-_}
 use native.Mathlib.Omega.{arith}

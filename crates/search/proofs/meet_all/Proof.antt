@@ -11,10 +11,10 @@ use Rattle.search.proofs.meet_all.Statement.{statement}
 use Rattle.search.proofs.meet_all.Tie as tie
 
 abbrev Inv-loop : tie.InvT-loop
-Inv-loop sizes map₀ k batch count rows₀ old new old-link new-link fresh₀ j₀ map rows fresh j = (j ≤ count) × Met sizes k (Before sizes batch j (old .first) (old .link) (new .first) (new .link)) map₀ map rows₀ rows fresh
+Inv-loop sizes map₀ k batch count rows₀ old new old-link new-link fresh₀ at₀ map rows fresh at = (at ≤ count) × Met sizes k (Before sizes batch at (old .first) (old .link) (new .first) (new .link)) map₀ map rows₀ rows fresh
 
 abbrev μ-loop : tie.MeasureT-loop
-μ-loop sizes map₀ k batch count rows₀ old new old-link new-link fresh₀ j₀ map rows fresh j = count - j
+μ-loop sizes map₀ k batch count rows₀ old new old-link new-link fresh₀ at₀ map rows fresh at = count - at
 
 loop-holds : tie.Need-loop-holds Inv-loop μ-loop
 loop-holds c = (omega arith, before-start)
@@ -52,8 +52,8 @@ meet-requires c κs = (met-open (c .before .before .before .before .before .befo
 add-fresh : tie.Need-add-fresh Inv-loop μ-loop
 add-fresh c = omega (arith, met-few (c .before .before .before .before .before .before .before .before .before .before .before .before .before .loop .inv .1), met-few (c .before .before .meet .ensures), few-pairs (c .before .before .before .before .before .before .before .before .before .before .before .before .before .before .before .before .before .pre .0 .few))
 
-add-j : tie.Need-add-j Inv-loop μ-loop
-add-j c = omega (arith, c .before .before .before .before .before .before .before .before .before .before .before .before .loop-test .taken, c .before .before .before .before .before .before .before .before .before .before .before .before .before .before .before .before .before .pre .1 .0 .few)
+add-at : tie.Need-add-at Inv-loop μ-loop
+add-at c = omega (arith, c .before .before .before .before .before .before .before .before .before .before .before .before .loop-test .taken, c .before .before .before .before .before .before .before .before .before .before .before .before .before .before .before .before .before .pre .1 .0 .few)
 
 loop-less : tie.Need-loop-less Inv-loop μ-loop
 loop-less c = omega (arith, c .before .before .before .before .before .before .before .before .before .before .before .before .loop-test .taken)
@@ -85,7 +85,7 @@ meet-all-spec =
     cast-new-chain
     meet-requires
     add-fresh
-    add-j
+    add-at
     loop-less
     loop-again
     same-length

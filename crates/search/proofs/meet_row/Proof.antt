@@ -1,26 +1,22 @@
 -- `meet_row`: a walk along the chain; at each state the pair is 0 and changed, or left.
-use mathlib.Core.Path.{_≡_, ap}
+use mathlib.Core.Path.{_≡_}
 use mathlib.Core.Logic.{⊎-elim}
-use Prim.Native.Nat.{ℕ, _+_, _-_}
 use native.Mathlib.Omega.{arith}
 use native.Mathlib.Nat.{add-zero}
-use lib.ListN.{getD}
-use Rattle.machine.specs.declared.Pair.{Pair}
-use Rattle.machine.proofs.Numbers.{same-pair}
 use borrow.Author.Needs.{needs}
 use Rattle.search.specs.Working.{On}
 use Rattle.search.proofs.Cells.{few-pairs}
 use Rattle.search.proofs.Meets.{met-one, met-kept, met-few, met-open}
-use Rattle.search.proofs.Chains.{along-inside, along-less, along-here}
+use Rattle.search.proofs.Chains.{along-inside, along-less}
 use Rattle.search.proofs.Walks.{Passed, passed-start, row-more, passed-end}
 use Rattle.search.proofs.meet_row.Statement.{statement}
 use Rattle.search.proofs.meet_row.Tie as tie
 
 abbrev Inv-loop : tie.InvT-loop
-Inv-loop sizes map₀ k old chain link rows₀ fresh₀ x₀ map rows fresh x = Passed sizes k (λ p. (p .old ≡ old) × On link (p .new) chain) (λ p. p .new) link (sizes .new) chain map₀ rows₀ x map rows fresh
+Inv-loop sizes map₀ k old chain link rows₀ fresh₀ y₀ map rows fresh y = Passed sizes k (λ p. (p .old ≡ old) × On link (p .new) chain) (λ p. p .new) link (sizes .new) chain map₀ rows₀ y map rows fresh
 
 abbrev μ-loop : tie.MeasureT-loop
-μ-loop sizes map₀ k old chain link rows₀ fresh₀ x₀ map rows fresh x = x
+μ-loop sizes map₀ k old chain link rows₀ fresh₀ y₀ map rows fresh y = y
 
 loop-holds : tie.Need-loop-holds Inv-loop μ-loop
 loop-holds c = passed-start (c .before .pre .1 .1) (λ p s. s .1)
@@ -55,11 +51,11 @@ element-write-rows c = search needs
 add-fresh : tie.Need-add-fresh Inv-loop μ-loop
 add-fresh c = omega (arith, met-few (c .before .before .before .before .loop .inv .met), few-pairs (c .before .before .before .before .before .before .pre .0 .few))
 
-element-copy-out-x : tie.Need-element-copy-out-x Inv-loop μ-loop
-element-copy-out-x c = search needs
+element-copy-out-y : tie.Need-element-copy-out-y Inv-loop μ-loop
+element-copy-out-y c = search needs
 
-cast-x : tie.Need-cast-x Inv-loop μ-loop
-cast-x c = omega (arith, along-less (c .before .before .before .before .before .before .before .pre .1 .1) (c .before .before .before .before .before .loop .inv .along) (c .before .before .before .before .loop-test .taken), c .before .before .before .before .before .loop .inv .along .most, c .before .before .before .before .before .before .before .pre .0 .few .few-new)
+cast-y : tie.Need-cast-y Inv-loop μ-loop
+cast-y c = omega (arith, along-less (c .before .before .before .before .before .before .before .pre .1 .1) (c .before .before .before .before .before .loop .inv .along) (c .before .before .before .before .loop-test .taken), c .before .before .before .before .before .loop .inv .along .most, c .before .before .before .before .before .before .before .pre .0 .few .few-new)
 
 loop-less : tie.Need-loop-less Inv-loop μ-loop
 loop-less c = along-less (c .before .before .before .before .before .before .before .pre .1 .1) (c .before .before .before .before .before .loop .inv .along) (c .before .before .before .before .loop-test .taken)
@@ -93,8 +89,8 @@ meet-row-spec =
     slice-write-map
     element-write-rows
     add-fresh
-    element-copy-out-x
-    cast-x
+    element-copy-out-y
+    cast-y
     loop-less
     loop-again
     same-length
