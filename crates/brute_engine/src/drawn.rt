@@ -2,49 +2,41 @@
 // 0, the others mostly 1 and 128. Two machines drawn apart rarely have alike pairs, so each size is drawn in three ways: both
 // apart, and the new one made from the old one by renaming its states, as it is or with one entry changed. Where the new machine has more
 // states than the old one, some old states get two names; where it has fewer, the next states that have no name are drawn.
-use crate::bytes::at;
-use crate::bytes::put;
+ghost use Prim.Native.Nat.{_<_};
 use crate::compare::compare;
 use crate::tables::ENTRIES;
 use crate::tables::Machines;
 use crate::tables::place;
+use crate::tables::wide;
+use crate::tally::PLACES;
 use machine::Sizes;
 use std::num::wrapping_add_usize;
 use std::num::wrapping_sub_usize;
 
-// The ways of drawing: apart, renamed, and renamed with one entry changed.
-const WAYS: usize = 3;
+// How many pairs of machines are drawn: 500 for each of the 12 sizes and 3 ways.
+const DRAWS: usize = 18000;
 
+// The ways of drawing: apart, renamed, and renamed with one entry changed.
 const APART: usize = 0;
 
 const CHANGED: usize = 2;
 
-// How many pairs of machines are drawn for each of the 12 sizes and 3 ways: 18,000 in all.
-const DRAWS: usize = 500;
+// The tables of one machine.
+struct Table {
+    next: [u8; ENTRIES],
+    out: [u8; ENTRIES],
+}
 
 // Compares on all of them.
-pub(crate) fn compare_all(tally: &mut [u64]) {
+pub(crate) fn compare_all(tally: &mut [usize; PLACES]) {
     let mut seed = 1;
-    for vectors in 1..4 {
-        compare_sizes(3, 3, vectors, &mut seed, tally);
-        compare_sizes(3, 4, vectors, &mut seed, tally);
-        compare_sizes(4, 3, vectors, &mut seed, tally);
-        compare_sizes(4, 4, vectors, &mut seed, tally);
-    }
-}
-
-// Compares on all of these sizes.
-fn compare_sizes(old: usize, new: usize, vectors: usize, seed: &mut u64, tally: &mut [u64]) {
-    let sizes = Sizes { old, new, vectors };
-    for way in 0..WAYS {
-        compare_way(sizes, way, seed, tally);
-    }
-}
-
-// Compares on all that are drawn in this way.
-fn compare_way(sizes: Sizes, way: usize, seed: &mut u64, tally: &mut [u64]) {
-    for _ in 0..DRAWS {
-        compare(draw(sizes, way, seed), tally);
+    for i in 0..DRAWS {
+        let sizes = Sizes {
+            old: i / 3000 % 2 + 3,
+            new: i / 1500 % 2 + 3,
+            vectors: i / 6000 % 3 + 1,
+        };
+        compare(draw(sizes, i / 500 % 3, &mut seed), tally);
     }
 }
 
@@ -60,22 +52,21 @@ fn roll(seed: &mut u64, sides: usize) -> usize {
 
 // Draws two machines.
 fn draw(sizes: Sizes, way: usize, seed: &mut u64) -> Machines {
-    let mut old_next = [0u8; ENTRIES];
-    let mut old_out = [0u8; ENTRIES];
-    let mut new_next = [0u8; ENTRIES];
-    let mut new_out = [0u8; ENTRIES];
     let zeros = wrapping_add_usize(4, roll(seed, 4));
-    draw_table(seed, sizes.old, zeros, &mut old_next, &mut old_out);
-    draw_table(seed, sizes.new, zeros, &mut new_next, &mut new_out);
-    relate(
-        sizes,
-        way,
-        &old_next,
-        &old_out,
-        seed,
-        &mut new_next,
-        &mut new_out,
-    );
+    let old = draw_table(seed, sizes.old, zeros);
+    let mut new = draw_table(seed, sizes.new, zeros);
+    if way != APART {
+        let shift = roll(seed, sizes.old);
+        new = rename(sizes, shift, old, seed);
+    }
+    if way == CHANGED {
+        let changed = change(sizes, new, seed);
+        new = changed;
+    }
+    let old_next = old.next;
+    let old_out = old.out;
+    let new_next = new.next;
+    let new_out = new.out;
     Machines {
         sizes,
         old_next,
@@ -85,36 +76,21 @@ fn draw(sizes: Sizes, way: usize, seed: &mut u64) -> Machines {
     }
 }
 
-// Makes the new machine from the old one where the way asks it.
-fn relate(
-    sizes: Sizes,
-    way: usize,
-    old_next: &[u8],
-    old_out: &[u8],
-    seed: &mut u64,
-    new_next: &mut [u8],
-    new_out: &mut [u8],
-) {
-    if way == APART {
-        return;
-    }
-    let shift = roll(seed, sizes.old);
-    rename(sizes, shift, old_next, old_out, seed, new_next, new_out);
-    if way == CHANGED {
-        change(sizes, seed, new_next, new_out);
-    }
-}
-
 // Draws a machine.
-fn draw_table(seed: &mut u64, states: usize, zeros: usize, next: &mut [u8], out: &mut [u8]) {
+fn draw_table(seed: &mut u64, states: usize, zeros: usize) -> Table {
+    let mut table = Table {
+        next: [0u8; ENTRIES],
+        out: [0u8; ENTRIES],
+    };
     for i in 0..ENTRIES {
-        put(next, i, roll(seed, states));
-        put(out, i, output(seed, zeros));
+        table.next[i] = narrow(roll(seed, states));
+        table.out[i] = output(seed, zeros);
     }
+    table
 }
 
 // Draws an output: 0 in `zeros` of 8 draws, else 1 or 128.
-fn output(seed: &mut u64, zeros: usize) -> usize {
+fn output(seed: &mut u64, zeros: usize) -> u8 {
     if roll(seed, 8) < zeros {
         return 0;
     }
@@ -124,25 +100,26 @@ fn output(seed: &mut u64, zeros: usize) -> usize {
     128
 }
 
+// A number below 256 as a byte.
+fn narrow(n: usize) -> u8 {
+    (n % 256) as u8
+}
+
 // Makes the new machine from the old one: the new state s stands for the old state s + shift, modulo the number of old states.
-fn rename(
-    sizes: Sizes,
-    shift: usize,
-    old_next: &[u8],
-    old_out: &[u8],
-    seed: &mut u64,
-    new_next: &mut [u8],
-    new_out: &mut [u8],
-) {
+fn rename(sizes: Sizes, shift: usize, old: Table, seed: &mut u64) -> Table {
+    let mut table = old;
     for i in 0..ENTRIES {
         let from = entry_of(sizes, shift, i);
-        put(new_next, i, name(sizes, shift, at(old_next, from), seed));
-        put(new_out, i, at(old_out, from));
+        table.next[i] = narrow(name(sizes, shift, wide(old.next[from]), seed));
+        table.out[i] = old.out[from];
     }
+    table
 }
 
 // The entry of the old table for which entry i of the new one stands.
-fn entry_of(sizes: Sizes, shift: usize, i: usize) -> usize {
+fn entry_of(sizes: Sizes, shift: usize, i: usize) -> usize
+    ensures { λ r. ⌜ r < 12 ⌝ }
+{
     let vectors = sizes.vectors;
     let states = sizes.old;
     if vectors == 0 {
@@ -152,7 +129,7 @@ fn entry_of(sizes: Sizes, shift: usize, i: usize) -> usize {
         return 0;
     }
     let state = wrapping_add_usize(i / vectors, shift) % states;
-    place(state, i % vectors, vectors)
+    place(state, vectors, i % vectors) % ENTRIES
 }
 
 // One of the new states that stand for an old one, or any where there is none.
@@ -176,11 +153,13 @@ fn name(sizes: Sizes, shift: usize, old: usize, seed: &mut u64) -> usize {
 }
 
 // Draws one next state anew, or changes one output.
-fn change(sizes: Sizes, seed: &mut u64, next: &mut [u8], out: &mut [u8]) {
-    let i = roll(seed, place(sizes.new, 0, sizes.vectors));
+fn change(sizes: Sizes, table: Table, seed: &mut u64) -> Table {
+    let mut t = table;
+    let i = roll(seed, place(sizes.new, sizes.vectors, 0)) % ENTRIES;
     if roll(seed, 2) == 0 {
-        put(next, i, roll(seed, sizes.new));
-        return;
+        t.next[i] = narrow(roll(seed, sizes.new));
+        return t;
     }
-    put(out, i, at(out, i) + 1);
+    t.out[i] = narrow(wrapping_add_usize(wide(t.out[i]), 1));
+    t
 }

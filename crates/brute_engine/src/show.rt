@@ -1,38 +1,97 @@
-// Printing words, numbers and the tables of two machines.
+// Printing words with numbers in them, and a disagreement.
+use crate::ask::LIST;
+use crate::ask::MAP_ALIGNABLE;
+use crate::ask::MAP_ALIKE;
+use crate::ask::Question;
+use crate::ask::TRACE;
+use crate::ask::VERDICT;
+use crate::compare::ROOM;
 use crate::tables::Machines;
+use crate::tables::wide;
+use crate::tally::PLACES;
+use std::num::wrapping_sub_usize;
 
-// Words.
-pub(crate) fn text(words: &[u8]) {
-    io::write_all(1, words);
-}
-
-// Words and a number.
-pub(crate) fn item(words: &[u8], n: u64) {
-    text(words);
-    io::print_decimal(1, n);
-}
-
-// Words and the bytes of a slice.
-fn bytes(words: &[u8], of: &[u8]) {
-    text(words);
-    for i in 0..of.len() {
-        byte(of[i]);
+// Prints words; the small letters stand for the numbers, `a` for the first.
+pub(crate) fn print(words: &[u8], numbers: &[usize; PLACES]) {
+    for i in 0..words.len() {
+        print_byte(words[i], numbers);
     }
 }
 
-// A space and a byte.
-fn byte(byte: u8) {
-    item(b" ", byte as u64);
+// Prints a byte of words, or the number for which it stands.
+fn print_byte(byte: u8, numbers: &[usize; PLACES]) {
+    let place = wrapping_sub_usize(wide(byte), 97);
+    if place < PLACES {
+        io::print_decimal(1, numbers[place] as u64);
+        return;
+    }
+    let one = [byte; 1];
+    io::write_all(1, &one);
 }
 
-// The sizes and tables of two machines.
-pub(crate) fn machines(m: Machines) {
-    item(b" STATES ", m.sizes.old as u64);
-    item(b" ", m.sizes.new as u64);
-    item(b" VECTORS ", m.sizes.vectors as u64);
-    bytes(b"\n  OLD NEXT", &m.old_next);
-    bytes(b"\n  OLD OUT ", &m.old_out);
-    bytes(b"\n  NEW NEXT", &m.new_next);
-    bytes(b"\n  NEW OUT ", &m.new_out);
-    text(b"\n");
+// Prints what was asked, and of which machines.
+pub(crate) fn question(m: Machines, question: Question, room: usize) {
+    let mut numbers = [0usize; PLACES];
+    numbers[0] = question.pair.old;
+    numbers[1] = question.pair.new;
+    numbers[2] = room;
+    numbers[3] = m.sizes.old;
+    numbers[4] = m.sizes.new;
+    numbers[5] = m.sizes.vectors;
+    call(question.call, &numbers);
+    print(b", BYTES LENT c\n  STATES d e, VECTORS f\n", &numbers);
+    tables(m);
+}
+
+// Prints the tables of two machines.
+fn tables(m: Machines) {
+    let old_next = m.old_next;
+    bytes(b"  OLD NEXT", &old_next);
+    let old_out = m.old_out;
+    bytes(b"  OLD OUT ", &old_out);
+    let new_next = m.new_next;
+    bytes(b"  NEW NEXT", &new_next);
+    let new_out = m.new_out;
+    bytes(b"  NEW OUT ", &new_out);
+}
+
+// Prints the call that was asked, of a pair if it is.
+fn call(call: usize, numbers: &[usize; PLACES]) {
+    print(b"DISAGREEMENT ON ", numbers);
+    if call == MAP_ALIKE {
+        print(b"THE MAP OF ALIKE PAIRS", numbers);
+    }
+    if call == MAP_ALIGNABLE {
+        print(b"THE MAP OF ALIGNABLE PAIRS", numbers);
+    }
+    if call == TRACE {
+        print(b"THE TRACE OF PAIR a b", numbers);
+    }
+    if call == LIST {
+        print(b"THE LIST OF PAIR a b", numbers);
+    }
+    if call == VERDICT {
+        print(b"THE VERDICT", numbers);
+    }
+}
+
+// Prints the numbers of an answer and the bytes that it has.
+pub(crate) fn answer(words: &[u8], numbers: &[usize; PLACES], slice: &[u8; ROOM]) {
+    print(words, numbers);
+    print(
+        b" REFUSED a, STEPS b, ROUND c, ALIKE d, ALIGNABLE e, APART f g h, SCRATCH NOT ZERO i\n",
+        numbers,
+    );
+    bytes(b"   SLICE", slice);
+}
+
+// Prints words and the bytes of a slice.
+fn bytes(words: &[u8], of: &[u8]) {
+    let mut numbers = [0usize; PLACES];
+    print(words, &numbers);
+    for i in 0..of.len() {
+        numbers[0] = wide(of[i]);
+        print(b" a", &numbers);
+    }
+    print(b"\n", &numbers);
 }

@@ -1,76 +1,61 @@
-// Every pair of machines that have 1 or 2 states each, the same 1 or 2 vectors and one output bit. A machine is a number: its lowest bits are
-// the outputs, a bit an entry, and the bits above are the next states.
-use crate::bytes::put;
+// Every pair of machines that have 1 or 2 states each, the same 1 or 2 vectors and one output bit. A pair of machines is a number of 19 bits:
+// 4 for each table, an entry a bit, and 3 for the sizes; of these numbers some have a bit that no machine of the sizes has.
 use crate::compare::compare;
 use crate::tables::ENTRIES;
 use crate::tables::Machines;
-use crate::tables::place;
+use crate::tally::PLACES;
 use machine::Sizes;
 
+const NUMBERS: usize = 524288;
+
 // Compares on all of them.
-pub(crate) fn compare_all(tally: &mut [u64]) {
-    for vectors in 1..3 {
-        compare_sizes(1, 1, vectors, tally);
-        compare_sizes(1, 2, vectors, tally);
-        compare_sizes(2, 1, vectors, tally);
-        compare_sizes(2, 2, vectors, tally);
+pub(crate) fn compare_all(tally: &mut [usize; PLACES]) {
+    for n in 0..NUMBERS {
+        let old = n / 65536 % 2 + 1;
+        let new = n / 131072 % 2 + 1;
+        let vectors = n / 262144 % 2 + 1;
+        if is_machine(old, vectors, n % 256) {
+            if is_machine(new, vectors, n / 256 % 256) {
+                compare(make(Sizes { old, new, vectors }, n), tally);
+            }
+        }
     }
 }
 
-// Compares on all of these sizes.
-fn compare_sizes(old: usize, new: usize, vectors: usize, tally: &mut [u64]) {
-    let sizes = Sizes { old, new, vectors };
-    for number in 0..machines(old, vectors) {
-        compare_old(sizes, number, tally);
-    }
-}
-
-// How many machines of these sizes there are: 2 to the states × states × vectors.
-fn machines(states: usize, vectors: usize) -> usize {
+// Whether no bit is set that a machine of these sizes does not have, of 4 bits for the next states and 4 for the outputs. Where there is one
+// state, it is the next one.
+fn is_machine(states: usize, vectors: usize, bits: usize) -> bool {
+    let next = bits / 16;
+    let out = bits % 16;
     if states == 1 {
         if vectors == 1 {
-            return 2;
+            return next == 0 && out < 2;
         }
-        return 4;
+        return next == 0 && out < 4;
     }
     if vectors == 1 {
-        return 16;
+        return next < 4 && out < 4;
     }
-    256
-}
-
-// Compares an old machine with every new one.
-fn compare_old(sizes: Sizes, old: usize, tally: &mut [u64]) {
-    for new in 0..machines(sizes.new, sizes.vectors) {
-        compare(make(sizes, old, new), tally);
-    }
+    true
 }
 
 // The tables of two machines.
-fn make(sizes: Sizes, old: usize, new: usize) -> Machines {
-    let mut old_next = [0u8; ENTRIES];
-    let mut old_out = [0u8; ENTRIES];
-    let mut new_next = [0u8; ENTRIES];
-    let mut new_out = [0u8; ENTRIES];
-    let rest = place_bits(old, place(sizes.old, 0, sizes.vectors), &mut old_out);
-    place_bits(rest, place(sizes.old, 0, sizes.vectors), &mut old_next);
-    let rest = place_bits(new, place(sizes.new, 0, sizes.vectors), &mut new_out);
-    place_bits(rest, place(sizes.new, 0, sizes.vectors), &mut new_next);
+fn make(sizes: Sizes, n: usize) -> Machines {
     Machines {
         sizes,
-        old_next,
-        old_out,
-        new_next,
-        new_out,
+        old_next: table_of(n / 16),
+        old_out: table_of(n),
+        new_next: table_of(n / 4096),
+        new_out: table_of(n / 256),
     }
 }
 
-// Writes the lowest bits of a number, one an entry, and answers the bits above.
-fn place_bits(number: usize, entries: usize, table: &mut [u8]) -> usize {
-    let mut rest = number;
-    for i in 0..entries {
-        put(table, i, rest % 2);
-        rest /= 2;
-    }
-    rest
+// The table whose entries are the lowest four bits of a number.
+fn table_of(n: usize) -> [u8; ENTRIES] {
+    let mut table = [0u8; ENTRIES];
+    table[0] = (n % 2) as u8;
+    table[1] = (n / 2 % 2) as u8;
+    table[2] = (n / 4 % 2) as u8;
+    table[3] = (n / 8 % 2) as u8;
+    table
 }

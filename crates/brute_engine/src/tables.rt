@@ -2,12 +2,8 @@
 use machine::Pair;
 use machine::Sizes;
 
-// The most states of a machine here, and entries of its table, and pairs of states.
-pub(crate) const MOST_STATES: usize = 4;
-
+// The most entries of a machine's table: 4 states and 3 vectors.
 pub(crate) const ENTRIES: usize = 12;
-
-pub(crate) const PAIRS: usize = 16;
 
 pub(crate) struct Machines {
     pub(crate) sizes: Sizes,
@@ -17,24 +13,19 @@ pub(crate) struct Machines {
     pub(crate) new_out: [u8; ENTRIES],
 }
 
-// Row × width + column, of small numbers.
-pub(crate) fn place(row: usize, column: usize, width: usize) -> usize {
-    if row < 16 {
-        if column < 16 {
-            if width < 16 {
-                return row * width + column;
-            }
-        }
+// Row × width + column, of rows up to 4, widths from 1 to 4 and columns up to 3.
+pub(crate) fn place(row: usize, width: usize, column: usize) -> usize {
+    let row = row % 5;
+    let column = column % 4;
+    match width {
+        1 => row + column,
+        2 => row * 2 + column,
+        3 => row * 3 + column,
+        _ => row * 4 + column,
     }
-    0
 }
 
-// How many pairs of states there are.
-pub(crate) fn pairs(sizes: Sizes) -> usize {
-    place(sizes.old, 0, sizes.new)
-}
-
-// The pair that has a number.
+// The pair of states that has a number.
 pub(crate) fn pair_at(sizes: Sizes, number: usize) -> Pair {
     let new = sizes.new;
     if new == 0 {
@@ -44,4 +35,9 @@ pub(crate) fn pair_at(sizes: Sizes, number: usize) -> Pair {
         old: number / new,
         new: number % new,
     }
+}
+
+// A byte as a number.
+pub(crate) fn wide(byte: u8) -> usize {
+    byte as usize
 }

@@ -1,43 +1,41 @@
--- `compare_all`: a turn a number of vectors.
-use Prim.Native.Nat.{_-_}
-use mathlib.Core.Path.{_≡_}
-use lib.ListN.{length}
+-- `compare_all`: a turn a draw.
+use Prim.Native.Nat.{_≤_, _-_}
 use borrow.Author.Needs.{needs}
 use Rattle.brute_engine.proofs.drawn.compare_all.Statement.{statement}
 use Rattle.brute_engine.proofs.drawn.compare_all.Tie as tie
 
 abbrev Inv-loop : tie.InvT-loop
-Inv-loop tally₀ seed₀ vectors₀ tally seed vectors = length tally ≡ length tally₀
+Inv-loop tally₀ seed₀ i₀ tally seed i = i ≤ 18000
 
 abbrev μ-loop : tie.MeasureT-loop
-μ-loop tally₀ seed₀ vectors₀ tally seed vectors = 4 - vectors
+μ-loop tally₀ seed₀ i₀ tally seed i = 18000 - i
 
 loop-holds : tie.Need-loop-holds Inv-loop μ-loop
 loop-holds c = search needs
 
-compare-sizes-requires : tie.Need-compare-sizes-requires Inv-loop μ-loop
-compare-sizes-requires c κs = search needs
+add-t8 : tie.Need-add-t8 Inv-loop μ-loop
+add-t8 c = search needs
 
-compare-sizes-requires-2 : tie.Need-compare-sizes-requires-2 Inv-loop μ-loop
-compare-sizes-requires-2 c κs = search needs
+add-t11 : tie.Need-add-t11 Inv-loop μ-loop
+add-t11 c = search needs
 
-compare-sizes-requires-3 : tie.Need-compare-sizes-requires-3 Inv-loop μ-loop
-compare-sizes-requires-3 c κs = search needs
+add-draw : tie.Need-add-draw Inv-loop μ-loop
+add-draw c = search needs
 
-compare-sizes-requires-4 : tie.Need-compare-sizes-requires-4 Inv-loop μ-loop
-compare-sizes-requires-4 c κs = search needs
+draw-requires : tie.Need-draw-requires Inv-loop μ-loop
+draw-requires c κs = search needs
 
-add-vectors : tie.Need-add-vectors Inv-loop μ-loop
-add-vectors c = search needs
+compare-requires : tie.Need-compare-requires Inv-loop μ-loop
+compare-requires c κs = search needs
+
+add-i : tie.Need-add-i Inv-loop μ-loop
+add-i c = search needs
 
 loop-less : tie.Need-loop-less Inv-loop μ-loop
 loop-less c = search needs
 
 loop-again : tie.Need-loop-again Inv-loop μ-loop
 loop-again c = search needs
-
-same-length : tie.Need-same-length Inv-loop μ-loop
-same-length c = search needs
 
 returns : tie.Need-returns Inv-loop μ-loop
 returns c = search needs
@@ -49,12 +47,12 @@ compare-all-spec =
     Inv-loop
     μ-loop
     loop-holds
-    compare-sizes-requires
-    compare-sizes-requires-2
-    compare-sizes-requires-3
-    compare-sizes-requires-4
-    add-vectors
+    add-t8
+    add-t11
+    add-draw
+    draw-requires
+    compare-requires
+    add-i
     loop-less
     loop-again
-    same-length
     returns)

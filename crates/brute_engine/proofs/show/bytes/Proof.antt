@@ -1,28 +1,35 @@
 -- `bytes`: a turn a byte.
-use Prim.Native.Nat.{_-_}
-use mathlib.Core.Path.{_≡_}
-use lib.ListN.{length}
+use Prim.Native.Nat.{_≤_, _-_}
 use borrow.Author.Needs.{needs}
 use Rattle.brute_engine.proofs.show.bytes.Statement.{statement}
 use Rattle.brute_engine.proofs.show.bytes.Tie as tie
 
 abbrev Inv-loop : tie.InvT-loop
-Inv-loop words of i₀ i-end i = i-end ≡ length of
+Inv-loop words of numbers₀ i₀ t5 t6 i-end numbers i = i ≤ i-end
 
 abbrev μ-loop : tie.MeasureT-loop
-μ-loop words of i₀ i-end i = i-end - i
+μ-loop words of numbers₀ i₀ t5 t6 i-end numbers i = i-end - i
 
-text-requires : tie.Need-text-requires Inv-loop μ-loop
-text-requires c κs = search needs
+print-requires : tie.Need-print-requires Inv-loop μ-loop
+print-requires c κs = search needs
 
 loop-holds : tie.Need-loop-holds Inv-loop μ-loop
 loop-holds c = search needs
 
-shared-slice-read-byte : tie.Need-shared-slice-read-byte Inv-loop μ-loop
-shared-slice-read-byte c = search needs
+shared-slice-read-wide : tie.Need-shared-slice-read-wide Inv-loop μ-loop
+shared-slice-read-wide c = search needs
 
-byte-requires : tie.Need-byte-requires Inv-loop μ-loop
-byte-requires c κs = search needs
+wide-requires : tie.Need-wide-requires Inv-loop μ-loop
+wide-requires c κs = search needs
+
+array-write-numbers : tie.Need-array-write-numbers Inv-loop μ-loop
+array-write-numbers c = search needs
+
+slice-aggregate-print : tie.Need-slice-aggregate-print Inv-loop μ-loop
+slice-aggregate-print c = search needs
+
+print-requires-2 : tie.Need-print-requires-2 Inv-loop μ-loop
+print-requires-2 c κs = search needs
 
 add-i : tie.Need-add-i Inv-loop μ-loop
 add-i c = search needs
@@ -33,6 +40,12 @@ loop-less c = search needs
 loop-again : tie.Need-loop-again Inv-loop μ-loop
 loop-again c = search needs
 
+slice-aggregate-print-2 : tie.Need-slice-aggregate-print-2 Inv-loop μ-loop
+slice-aggregate-print-2 c = search needs
+
+print-requires-3 : tie.Need-print-requires-3 Inv-loop μ-loop
+print-requires-3 c κs = search needs
+
 returns : tie.Need-returns Inv-loop μ-loop
 returns c = search needs
 
@@ -42,11 +55,16 @@ bytes-spec =
     (tie.spec
     Inv-loop
     μ-loop
-    text-requires
+    print-requires
     loop-holds
-    shared-slice-read-byte
-    byte-requires
+    shared-slice-read-wide
+    wide-requires
+    array-write-numbers
+    slice-aggregate-print
+    print-requires-2
     add-i
     loop-less
     loop-again
+    slice-aggregate-print-2
+    print-requires-3
     returns)
