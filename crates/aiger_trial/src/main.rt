@@ -12,6 +12,7 @@ use converter::Text;
 use format::Layout;
 use image::Answer;
 use netlist::Design;
+use streams::Input;
 use writer::Written;
 
 // The most bytes of all questions.
@@ -90,7 +91,7 @@ fn show_output(room: &[u8], n: usize)
     requires { ⌜ (length (now room) ≡ mostText + 1) × (n ≤ length (now room)) ⌝ }
 {
     let mut out = [165u8; Layout::MOST_BYTES];
-    let sent = converter::answer(room, n, &mut out);
+    let sent = converter::answer(room, Input::Read(n), &mut out);
     let length = sent.length;
     io::print_decimal(1, sent.stream as u64);
     io::write_all(1, b" ");

@@ -6,9 +6,9 @@ const TEXT: usize = 400 + 12 * 32768;
 
 fn main() {
     // One byte more than two images have, so that longer input is noticed.
-    let mut input = [0u8; 2 * Layout::MOST_BYTES + 1];
-    let n = io::read_full(0, &mut input);
+    let mut room = [0u8; 2 * Layout::MOST_BYTES + 1];
+    let input = streams::read_input(&mut room);
     let mut text = [0u8; TEXT];
-    let length = align_report::answer(&input[..n], &mut text);
-    io::write_all(1, &text[..length]);
+    let sent = align_report::answer(&room, input, &mut text);
+    streams::write_output(sent, &text, b"align: the answer cannot be written\n");
 }

@@ -3,8 +3,9 @@ use Prim.Native.Nat.{ℕ, _+_, _-_, _*_, _/_, _%_, _<_, _≤_}
 use mathlib.Core.Path.{_≡_, sym, _∙_, ap, subst}
 use mathlib.Core.List.{List}
 use native.Mathlib.Omega.{arith}
+use native.Mathlib.Decide.{decLt}
 use lib.ListN.{length, getD, take, drop, length-drop}
-use lib.Seq.{getD-take, getD-drop, take-take, length-take-le}
+use lib.Seq.{getD-take, getD-drop, take-take, take-all, length-take-le}
 use Rattle.numbers.specs.Meaning.Bits.{bitOf}
 use Rattle.memory.specs.Meaning.Refusals.{Free, First}
 use Rattle.format.specs.Meaning.Layout.{mostBytes}
@@ -15,11 +16,7 @@ use Rattle.format.proofs.Refusals.{within-limits}
 use Rattle.image.proofs.Long.{SameFront, same-bytes-in, header-there, free-there, never-free, lowest-there}
 use Rattle.machine.specs.Meaning.Lent.{Lent}
 use Rattle.compare.specs.Meaning.Comparing.{TablesLent}
-use Rattle.align_report.specs.Meaning.Report.{oldBytes, newBytes, OldRefused, OldAccepted, Answers}
-
--- one byte more than two images have
-abbrev pub mostRead : ℕ
-mostRead = 2 * mostBytes + 1
+use Rattle.align_report.specs.Meaning.Report.{oldBytes, newBytes, OldRefused, OldAccepted, Answers, Prints, mostRead}
 
 same-bit : (b c : List ℕ) (i : ℕ) → getD b (i / 8) 0 ≡ getD c (i / 8) 0 → bitAt b i ≡ bitAt c i
 unfolding bitAt
@@ -68,3 +65,11 @@ module _ (b : List ℕ) (long : mostRead ≤ length b) where
   cut-input n s l t (Answers.old-refused k r z e) = Answers.old-refused k (old-refused r) z e
   cut-input n s l t (Answers.new-refused k a f z e) = Answers.new-refused k (old-accepted a) (lowest-there (behind (a .header)) f) z e
   cut-input n s l t (Answers.designs a f d) = absurd (never-free (behind (a .header)) f)
+
+-- so the room that is read into is long enough
+pub whole-input : (b text′ : List ℕ) (r : ℕ) → Prints (take mostRead b) text′ r → Prints b text′ r
+whole-input b text′ r p = go (decLt (length b) mostRead)
+  where
+    go : Dec (length b < mostRead) → Prints b text′ r
+    go (yes h) = subst (λ (c : List ℕ). Prints c text′ r) (take-all mostRead b (omega arith)) p
+    go (no h) = let q = p .reports in record { list = p .list; reports = record { answers = cut-input b (omega arith) _ _ (p .list) (take r text′) (q .answers); counts = q .counts; kept = q .kept } }

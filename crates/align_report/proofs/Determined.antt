@@ -20,7 +20,10 @@ use Rattle.report.specs.declared.Facts.{Facts}
 use Rattle.report.specs.declared.Side.{Side}
 use Rattle.report.specs.declared.Side.the-variants.{Old, New, Both}
 use Rattle.report.specs.Meaning.Text.{refusalText, sameText, apartText}
-use Rattle.align_report.specs.Meaning.Report.{OldRefused, OldAccepted, FactsOf, AnswersDesigns, Answers, Reports, ownTables, ownSlices, Prints}
+use Rattle.streams.specs.declared.Input.{Input}
+use Rattle.streams.specs.Meaning.Output.{Sends}
+use Rattle.streams.proofs.Sending.{one-answer}
+use Rattle.align_report.specs.Meaning.Report.{OldRefused, OldAccepted, FactsOf, AnswersDesigns, Answers, Reports, ownTables, ownSlices, Prints, Outputs, unreadMessage}
 
 facts-unique : (a b : Design) (f g : Facts) → FactsOf a b f → FactsOf a b g → f ≡ g
 facts-unique a b f g x y =
@@ -94,3 +97,6 @@ module _ (l k : List ℕ) (long : length l ≡ length k) where
 pub prints-unique : (b t u : List ℕ) (r q : ℕ) → Prints b t r → Prints b u q → take r t ≡ take q u
 prints-unique b t u r q x y =
     answers-unique (x .list) (y .list) (x .reports .kept ∙ sym (y .reports .kept)) b ownTables (ownSlices 32768) (x .reports .answers) (y .reports .answers) .0
+
+pub one-sending : (i : Input) (room a b : List ℕ) (k l r s : ℕ) → Sends unreadMessage Outputs i room a k r → Sends unreadMessage Outputs i room b l s → (k ≡ l) × (take r a ≡ take s b)
+one-sending i room a b k l r s p q = one-answer (λ t c d. (c .stream ∙ sym (d .stream), prints-unique t a b r s (c .prints) (d .prints))) (p .says) (q .says)

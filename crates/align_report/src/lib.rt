@@ -12,7 +12,9 @@ ghost use Rattle.machine.specs.Meaning.Lent.{lentOf};
 ghost use Rattle.verdict.specs.Meaning.Decision.{CountsPairs};
 ghost use Rattle.compare.specs.Meaning.Designs.{machineOf, sizesOf};
 ghost use Rattle.compare.specs.Meaning.Comparing.{tablesLentOf};
-ghost use Rattle.align_report.specs.Meaning.Report.{FactsOf, Reports, ownTables, ownSlices, Prints};
+ghost use Rattle.streams.specs.Meaning.Input.{Within};
+ghost use Rattle.streams.specs.Meaning.Output.{Sends};
+ghost use Rattle.align_report.specs.Meaning.Report.{FactsOf, Reports, ownTables, ownSlices, Outputs, mostRead, unreadMessage};
 ghost use Rattle.align_report.specs.Working.Tabled.{ReportsDesigns};
 use image::Answer;
 use image::Length;
@@ -21,6 +23,8 @@ use netlist::Design;
 use netlist::Image;
 use report::Facts;
 use report::Side;
+use streams::Input;
+use streams::Output;
 use verdict::Judged;
 use verdict::Verdict;
 
@@ -32,16 +36,20 @@ const PAIRS: usize = 1 << (Image::MOST_LATCHES + Image::MOST_LATCHES);
 // The most steps of a list.
 const STEPS: usize = 32768;
 
-// Writes what the program prints of its input, and hands back how many bytes it has.
-pub fn answer(input: &[u8], text: &mut [u8]) -> usize
-    requires { ⌜ 400 + 12 * 32768 ≤ length (now text) ⌝ }
-    ensures { λ r. ⌜ Prints (now (input .entry)) (now (text .exit)) r ⌝ }
+// Puts what the program writes of its room into a text: what it prints of what was read, or the words that nothing could be read.
+pub fn answer(room: &[u8], input: Input, text: &mut [u8]) -> Output
+    requires { ⌜ (length (now room) ≡ mostRead) × (Within input (now room)) × (400 + 12 * 32768 ≤ length (now text)) ⌝ }
+    ensures { λ r. ⌜ Sends unreadMessage Outputs input (now (room .entry)) (now (text .exit)) (r .stream) (r .length) ⌝ }
 {
+    let Input::Read(n) = input else {
+        return streams::put_unread(b"align: standard input cannot be read\n", text);
+    };
     let mut list = [0u8; STEPS];
-    write_report(input, &mut list, text)
+    let length = write_report(&room[..n], &mut list, text);
+    Output { stream: 1, length }
 }
 
-// The same with a list slice of any length.
+// Writes what is printed of an input, with a list slice of any length, and hands back how many bytes it has.
 pub fn write_report(input: &[u8], list: &mut [u8], text: &mut [u8]) -> usize
     requires { ⌜ 400 + 12 * length (now list) ≤ length (now text) ⌝ }
     ensures { λ r. ⌜ Reports (now (input .entry)) ownTables (ownSlices (length (now (list .entry)))) (now (list .exit)) (now (text .exit)) r ⌝ }

@@ -3,10 +3,9 @@ use converter::Text;
 use format::Layout;
 
 fn main() {
-    let mut input = Text::room();
-    let n = io::read_full(0, &mut input);
+    let mut room = Text::room();
+    let input = streams::read_input(&mut room);
     let mut out = [0u8; Layout::MOST_BYTES];
-    let sent = converter::answer(&input, n, &mut out);
-    let length = sent.length;
-    io::write_all(sent.stream as i32, &out[..length]);
+    let sent = converter::answer(&room, input, &mut out);
+    streams::write_output(sent, &out, b"convert: the answer cannot be written\n");
 }

@@ -11,7 +11,10 @@ use Rattle.writer.proofs.Images.{one-image}
 use Rattle.writer.proofs.RoundTrip.{front-bytes}
 use Rattle.writer.specs.Meaning.Writing.{AreBytes}
 use Rattle.pieces.specs.Meaning.Pieces.{lastField}
-use Rattle.converter.specs.Meaning.Output.{Outputs, Converts}
+use Rattle.streams.specs.declared.Input.{Input}
+use Rattle.streams.specs.Meaning.Output.{Sends}
+use Rattle.streams.proofs.Sending.{one-answer}
+use Rattle.converter.specs.Meaning.Output.{unreadMessage, Outputs, Converts}
 
 pub one-output : (t a b : List ℕ) (k l : ℕ) → AreBytes a → AreBytes b → Outputs t a k → Outputs t b l → (k ≡ l) × (a ≡ b)
 one-output t a b k l x y (Outputs.long h e) (Outputs.long i f) = (refl, e ∙ sym f)
@@ -28,3 +31,7 @@ pub one-conversion : (t a b : List ℕ) (k l r s : ℕ) → AreBytes a → AreBy
 one-conversion t a b k l r s x y p q =
     let e = one-output t (take r a) (take s b) k l (front-bytes r a x) (front-bytes s b y) (p .outputs) (q .outputs) in
     (e .0, omega (arith, p .counts .1, q .counts .1, ap length (e .1)), e .1)
+
+pub one-sending : (i : Input) (room a b : List ℕ) (k l r s : ℕ) → AreBytes a → AreBytes b
+    → Sends unreadMessage Converts i room a k r → Sends unreadMessage Converts i room b l s → (k ≡ l) × (take r a ≡ take s b)
+one-sending i room a b k l r s x y p q = one-answer (λ t c d. let e = one-conversion t a b k l r s x y c d in (e .0, e .2)) (p .says) (q .says)

@@ -4,10 +4,14 @@ ghost use Prim.Native.Nat.{_+_, _≤_};
 ghost use lib.ListN.{length, take};
 ghost use Rattle.format.specs.Meaning.Layout.{mostBytes};
 ghost use Rattle.netlist.specs.Meaning.Faults.{Accepted};
-ghost use Rattle.converter.specs.Meaning.Output.{mostText, Converts};
+ghost use Rattle.streams.specs.Meaning.Input.{Within};
+ghost use Rattle.streams.specs.Meaning.Output.{Sends};
+ghost use Rattle.converter.specs.Meaning.Output.{mostText, unreadMessage, Converts};
 ghost use Rattle.converter.specs.Working.Images.{HoldsWhole};
 use image::Answer;
 use netlist::Design;
+use streams::Input;
+use streams::Output;
 use writer::Written;
 
 // The program's input: a text of up to a mebibyte.
@@ -24,16 +28,22 @@ impl Text {
     }
 }
 
-// How many bytes are to go out, and where: to standard output, 1, or standard error, 2.
-pub struct Output {
-    pub stream: u8,
-    pub length: usize,
+// Puts what the program writes of its room into a slice: of what was read an image, a refusal, or the message that the text is too long;
+// or the message that nothing could be read.
+pub fn answer(room: &[u8], input: Input, out: &mut [u8]) -> Output
+    requires { ⌜ (length (now room) ≡ mostText + 1) × (Within input (now room)) × (mostBytes ≤ length (now out)) ⌝ }
+    ensures { λ r. ⌜ Sends unreadMessage Converts input (now (room .entry)) (now (out .exit)) (r .stream) (r .length) ⌝ }
+{
+    let Input::Read(n) = input else {
+        return streams::put_unread(b"convert: standard input cannot be read\n", out);
+    };
+    convert(room, n, out)
 }
 
-// Puts what the program writes of the first n bytes of its room into a slice: an image, a refusal, or the message that the text is too long.
-pub fn answer(input: &[u8], n: usize, out: &mut [u8]) -> Output
-    requires { ⌜ (length (now input) ≡ mostText + 1) × (n ≤ length (now input)) × (mostBytes ≤ length (now out)) ⌝ }
-    ensures { λ r. ⌜ Converts (take n (now (input .entry))) (now (out .exit)) (r .stream) (r .length) ⌝ }
+// The same of the first n bytes of the room.
+fn convert(room: &[u8], n: usize, out: &mut [u8]) -> Output
+    requires { ⌜ (length (now room) ≡ mostText + 1) × (n ≤ length (now room)) × (mostBytes ≤ length (now out)) ⌝ }
+    ensures { λ r. ⌜ Converts (take n (now (room .entry))) (now (out .exit)) (r .stream) (r .length) ⌝ }
 {
     if n > Text::MOST_BYTES {
         let length = pieces::put_word(
@@ -43,7 +53,7 @@ pub fn answer(input: &[u8], n: usize, out: &mut [u8]) -> Output
         );
         return Output { stream: 2, length };
     }
-    let reading = aiger::read(&input[..n]);
+    let reading = aiger::read(&room[..n]);
     let answer = reading.answer;
     let Answer::Refused(number) = answer else {
         let design = reading.design;

@@ -10,7 +10,10 @@
 --   Reports b n s list′ text′ r      the first r bytes of text′ are such a text
 --   ownTables, ownSlices n     lengths of the tables and of scratch that the program holds, with a list slice of n bytes
 --   Prints b text′ r           the first r bytes of text′ are what the program prints of the input b
-use Prim.Native.Nat.{ℕ}
+--   Outputs b text′ k r        the same, to stream k
+--   mostRead                   how many bytes are read: one more than two images have
+--   unreadMessage              what is said of input that cannot be read
+use Prim.Native.Nat.{ℕ, _+_, _*_}
 use mathlib.Core.Path.{_≡_}
 use mathlib.Core.List.{List}
 use lib.ListN.{length, take, drop}
@@ -18,6 +21,7 @@ use Rattle.io.specs.Counts as io
 use Rattle.memory.specs.Meaning.Refusals.{Free, First}
 use Rattle.memory.specs.Meaning.Slices.{Zero}
 use Rattle.netlist.specs.declared.Design.{Design}
+use Rattle.format.specs.Meaning.Layout.{mostBytes}
 use Rattle.format.specs.Meaning.Format.{bytesIn, decoded}
 use Rattle.format.specs.Meaning.Faults.{ImageFault, HeaderFault}
 use Rattle.machine.specs.declared.Pair.{Pair}
@@ -28,6 +32,7 @@ use Rattle.machine.specs.Meaning.Lent.{Lent, lentOf}
 use Rattle.verdict.specs.Meaning.Decision.{Decided, same, apart}
 use Rattle.compare.specs.Meaning.Designs.{machineOf, sizesOf}
 use Rattle.compare.specs.Meaning.Comparing.{TablesLent, tablesLentOf, CompareFault}
+use Rattle.pieces.specs.Meaning.Pieces.{bytes}
 use Rattle.report.specs.declared.Facts.{Facts}
 use Rattle.report.specs.declared.Side.the-variants.{Old, New, Both}
 use Rattle.report.specs.Meaning.Text.{refusalText, sameText, apartText}
@@ -95,3 +100,15 @@ ownSlices n = lentOf 16384 16384 n
 pub record Prints (b text′ : List ℕ) (r : ℕ) : Type 0 where
   pub list : List ℕ
   pub reports : Reports b ownTables (ownSlices 32768) list text′ r
+
+-- to standard output, 1
+pub record Outputs (b text′ : List ℕ) (k r : ℕ) : Type 0 where
+  pub prints : Prints b text′ r
+  pub stream : k ≡ 1
+
+-- so that longer input is noticed and not cut: what is printed of so many bytes is what would be printed of all (law whole-input)
+abbrev pub mostRead : ℕ
+mostRead = 2 * mostBytes + 1
+
+abbrev pub unreadMessage : List ℕ
+unreadMessage = bytes "align: standard input cannot be read\n"

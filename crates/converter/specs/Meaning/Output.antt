@@ -1,5 +1,5 @@
 -- What the program `convert` writes of its input.
---   mostText             how many bytes the longest text has; longMessage what is said of a longer one
+--   mostText             how many bytes the longest text has; longMessage what is said of a longer one, unreadMessage of input that cannot be read
 --   Outputs t o k        the bytes o are what is written of the text t, to stream k
 --   Converts t out′ k r  the first r bytes of out′ are such bytes
 use Prim.Native.Nat.{ℕ, _<_, _≤_}
@@ -20,6 +20,9 @@ mostText = 1048576
 
 abbrev pub longMessage : List ℕ
 longMessage = bytes "convert: the text is longer than 1,048,576 bytes\n"
+
+abbrev pub unreadMessage : List ℕ
+unreadMessage = bytes "convert: standard input cannot be read\n"
 
 -- to standard output, 1, the image's bytes or the one line `REFUSED n`; of a text that is too long nothing, but the message to standard error, 2
 pub data Outputs (t o : List ℕ) : ℕ → Type 0 where
