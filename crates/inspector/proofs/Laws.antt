@@ -7,7 +7,7 @@ use native.Mathlib.Decide.{decLt}
 use lib.ListN.{length, getD, take}
 use lib.Seq.{getD-take, take-all, length-take-le}
 use Rattle.numbers.specs.Meaning.Bits.{bitOf}
-use Rattle.memory.proofs.Refusals.{lowest-unique}
+use Rattle.memory.proofs.Orders.{first-unique}
 use Rattle.format.specs.Meaning.Format.{bitAt}
 use Rattle.image.proofs.Long.{SameFront, never-free, lowest-there}
 use Rattle.pieces.specs.Meaning.Pieces.{lastField}
@@ -20,7 +20,7 @@ pub one-text : (b t u : List ℕ) → Shows b t → Shows b u → t ≡ u
 one-text b t u (Shows.accepted f e) (Shows.accepted g h) = e ∙ sym h
 one-text b t u (Shows.accepted f e) (Shows.refused n l h) = absurd (f n (l .applies))
 one-text b t u (Shows.refused m k e) (Shows.accepted g h) = absurd (g m (k .applies))
-one-text b t u (Shows.refused m k e) (Shows.refused n l h) = e ∙ ap (lastField "REFUSED ") (lowest-unique k l) ∙ sym h
+one-text b t u (Shows.refused m k e) (Shows.refused n l h) = e ∙ ap (lastField "REFUSED ") (first-unique k l) ∙ sym h
 
 pub one-sending : (i : Input) (room a b : List ℕ) (k l r s : ℕ) → Sends unreadMessage Inspects i room a k r → Sends unreadMessage Inspects i room b l s → (k ≡ l) × (take r a ≡ take s b)
 one-sending i room a b k l r s p q = one-answer (λ t c d. (c .stream ∙ sym (d .stream), one-text t (take r a) (take s b) (c .shows) (d .shows))) (p .says) (q .says)
