@@ -1,13 +1,12 @@
 -- What the verdict answers, from the two maps.
-use mathlib.Core.Path.{_≡_, ap, _∙_}
-use mathlib.Core.Logic.{_⊎_, inl, inr, ⊎-elim}
+use mathlib.Core.Path.{_≡_, sym, subst, ap, _∙_}
+use mathlib.Core.Logic.{⊎-elim}
 use mathlib.Core.List.{List}
-use Prim.Native.Nat.{ℕ, _<_, _≤_, _*_}
+use Prim.Native.Nat.{ℕ, _<_, _≤_}
 use native.Mathlib.Omega.{arith}
-use lib.Arith.{digits-lt}
-use lib.ListN.{length, take}
+use lib.ListN.{length, getD, take}
 use lib.Seq.{length-take-le}
-use Rattle.numbers.proofs.Order.{tri, zero-or}
+use Rattle.numbers.proofs.Order.{zero-or}
 use Rattle.memory.specs.Meaning.Refusals.{Free, First}
 use Rattle.memory.specs.Meaning.Slices.{Zero}
 use Rattle.memory.proofs.Table.{first-of-lowest}
@@ -15,17 +14,20 @@ use Rattle.machine.specs.declared.Found.{Found}
 use Rattle.machine.specs.declared.Pair.{Pair}
 use Rattle.machine.specs.declared.Sizes.{Sizes}
 use Rattle.machine.specs.Meaning.Machine.{Machine}
-use Rattle.machine.specs.Meaning.Tables.{Tables, number, at, In, oldMachine, newMachine, AlikeIn, AlignableIn, TraceIn}
+use Rattle.machine.specs.Meaning.Tables.{Tables, pairs, number, at, In, oldMachine, newMachine, AlikeIn, AlignableIn, TraceIn}
 use Rattle.machine.specs.Meaning.Verdict.{LowestApart, IsApart, VerdictList}
 use Rattle.machine.specs.Meaning.Verdict as W
+use Rattle.machine.specs.Working.Pairs.{pairAt}
+use Rattle.machine.proofs.Numbers.{number-in, number-pair, pairAt-in, at-pair}
 use Rattle.machine.proofs.Pairs.{alike-alignable}
 use Rattle.machine.proofs.Verdict.{written-unique}
+use Rattle.search.specs.Working.{LowestBelow}
 use Rattle.seek.specs.Working.Steps.{Good, Outcome, missing, steps}
 use Rattle.seek.specs.Working.Steps as E
 use Rattle.seek.proofs.Sets.{inside}
 use Rattle.verdict.specs.declared.Verdict.{Verdict}
 use Rattle.verdict.specs.Meaning.Decision.{ShortList, short}
-use Rattle.verdict.specs.Working.Deciding.{SameIn, LowestZero, Mapped, Reached, Settled}
+use Rattle.verdict.specs.Working.Deciding.{SameIn, Mapped, Reached, Settled}
 
 module _ (t : Tables) where
   abbrev z : Sizes
@@ -37,6 +39,9 @@ module _ (t : Tables) where
   abbrev m1 : Machine
   m1 = newMachine t
 
+  positive : {n : ℕ} → (n ≡ 0 → ⊥) → 0 < n
+  positive {n} h = ⊎-elim (λ e. absurd (h e)) (λ q. omega (arith, q .1)) (zero-or n)
+
   module _ {depth reach : List ℕ} (m : Mapped t depth reach) where
     pub alignable-of-some : (p : Pair) → In z p → 0 < at z reach p → AlignableIn t p
     alignable-of-some p i s = ⊎-elim (λ e. absurd (omega arith)) (λ q. let y = m .both .alike .map .dist p i (q .0) (q .1) in record { list = y .list; leads = y .leads }) (zero-or (at z reach p))
@@ -44,19 +49,18 @@ module _ (t : Tables) where
     pub some-of-alignable : (p : Pair) → In z p → AlignableIn t p → 0 < at z reach p
     some-of-alignable p i a = ⊎-elim (λ e. absurd (m .both .alike .map .none p i e (a .list) (a .leads))) (λ q. omega (arith, q .1)) (zero-or (at z reach p))
 
-    module _ {r : Pair} (s : LowestZero z reach r) where
+    module _ {i : ℕ} (s : LowestBelow (λ q. getD reach q 0 ≡ 0) (pairs z) i) where
       -- the scan stopped at a pair: it is the lowest that is not alignable
-      pub apart-of : r .old < z .old → LowestApart m0 m1 z r
-      apart-of h = record { inside = s .found h .0; apart = λ a. m .both .alike .map .none r (s .found h .0) (s .found h .1) (a .list) (a .leads); lower = λ q i l. alignable-of-some q i (go q i l (tri (q .old) (r .old))) }
-        where
-          go : (q : Pair) → In z q → number z q < number z r → (q .old < r .old) ⊎ ((q .old ≡ r .old) ⊎ (r .old < q .old)) → 0 < at z reach q
-          go q i l (inl a) = s .rows q i a
-          go q i l (inr (inl a)) = s .row h q i a (omega (arith, ap (λ (x : ℕ). x * z .new) a))
-          go q i l (inr (inr a)) = absurd (omega (arith, digits-lt {q = r .old} {m = q .old} {r = r .new} {c = z .new} a (s .found h .0 .in-new)))
+      pub apart-of : {p : Pair} → p ≡ pairAt z i → i < pairs z → LowestApart m0 m1 z p
+      apart-of e h = subst (λ (q : Pair). LowestApart m0 m1 z q) (sym e) (record {
+        inside = pairAt-in z i h;
+        apart = λ a. m .both .alike .map .none _ (pairAt-in z i h) (at-pair z reach i ∙ s .found h) (a .list) (a .leads);
+        lower = λ q b l. alignable-of-some q b (positive (s .below (number z q) (omega (arith, l, number-pair z i))));
+      })
 
       -- the scan passed all pairs: the map holds 0 for none
-      pub all-reached : z .old ≤ r .old → Reached t reach
-      all-reached h = record { good = m .good; room = m .reach-room; alike = m .both .alike; some = λ p i. s .rows p i (omega (arith, i .in-old)) }
+      pub all-reached : pairs z ≤ i → Reached t reach
+      all-reached h = record { good = m .good; room = m .reach-room; alike = m .both .alike; some = λ p b. positive (s .below (number z p) (omega (arith, number-in z p b))) }
 
   -- 16 applies where the list is longer than the slice, and nothing where it fits
   too-long : {n : ℕ} (l : List ℕ) → VerdictList m0 m1 z l → n < length l → First (ShortList m0 m1 z n) 16

@@ -1,5 +1,4 @@
 pub mod Parts
-pub mod Scanning
 pub mod Aligning
 pub mod Answers
 pub mod Tallies

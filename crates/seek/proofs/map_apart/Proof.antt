@@ -17,7 +17,7 @@ same-length c = search needs
 
 returns : tie.Need-returns
 returns c =
-    map-apart _ (c .before .before .before .before .before .before .before .before .before .before .before .before .before .pre .0) (c .before .before .before .before .before .before .differ .ensures) (c .before .before .search .ensures)
+    map-apart _ (c .before .before .before .before .before .before .before .before .before .before .before .before .before .pre .0) (c .before .before .before .before .before .before .differ .ensures) (c .before .before .search .ensures .0)
 
 pub map-apart-spec : {M : Type 1} → statement M
 map-apart-spec = tie.close (tie.spec differ-requires search-requires same-length returns)

@@ -26,7 +26,7 @@ same-length-2 c = search needs
 
 returns : tie.Need-returns
 returns c =
-    record { apart = c .before .before .before .before .before .before .before .before .before .before .before .before .map-apart .ensures .complete; alike = map-alike _ (c .before .before .before .before .before .before .before .before .before .before .before .before .before .before .before .before .before .before .before .before .pre .0) (c .before .before .before .before .before .before .before .before .before .before .before .before .map-apart .ensures .complete) (rw (c .before .before .before .before .before .before .before .before .before .total .ensures .0) at (c .before .before .before .before .before .before .aligned-start .ensures)) (c .before .before .search .ensures) .complete }
+    (record { apart = c .before .before .before .before .before .before .before .before .before .before .before .before .map-apart .ensures .complete; alike = map-alike _ (c .before .before .before .before .before .before .before .before .before .before .before .before .before .before .before .before .before .before .before .before .pre .0) (c .before .before .before .before .before .before .before .before .before .before .before .before .map-apart .ensures .complete) (rw (c .before .before .before .before .before .before .before .before .before .total .ensures .0) at (c .before .before .before .before .before .before .aligned-start .ensures)) (c .before .before .search .ensures .0) .complete }, c .before .before .search .ensures .1)
 
 pub map-both-spec : {M : Type 1} → statement M
 map-both-spec =
