@@ -5,10 +5,10 @@ use Rattle.brute_engine.proofs.lists.into.Statement.{statement}
 use Rattle.brute_engine.proofs.lists.into.Tie as tie
 
 abbrev Inv-loop : tie.InvT-loop
-Inv-loop j vector set from₀ pair₀ pair-end from pair = pair ≤ pair-end
+Inv-loop j vector set from₀ pair₀ from pair = pair ≤ 16
 
 abbrev μ-loop : tie.MeasureT-loop
-μ-loop j vector set from₀ pair₀ pair-end from pair = pair-end - pair
+μ-loop j vector set from₀ pair₀ from pair = 16 - pair
 
 returns : tie.Need-returns Inv-loop μ-loop
 returns c = search needs
