@@ -1,5 +1,4 @@
 pub mod Sizes
-pub mod Spelling
 pub mod Gates
 pub mod Refusals
 pub mod Headers

@@ -7,10 +7,10 @@ ghost use Rattle.memory.specs.Meaning.Refusals.{Free, LowestOrNone};
 ghost use Rattle.memory.specs.Working.Tests.{Tells, Splits};
 ghost use Rattle.netlist.specs.Meaning.Faults.{DesignFault};
 ghost use Rattle.format.specs.Meaning.Layout.{countBits};
-ghost use Rattle.format.specs.Meaning.Format.{fieldAt, decoded, countIn};
+ghost use Rattle.reader.specs.Meaning.Fields.{fieldAt};
+ghost use Rattle.format.specs.Meaning.Format.{decoded, countIn};
 ghost use Rattle.format.specs.Meaning.Faults.{ImageFault, HeaderFault};
 ghost use Rattle.format.specs.Working.Scanning.{Narrow, SpellsHeader, UnreadAbove, UnreadBelow};
-use crate::bits;
 use crate::fields;
 use crate::fields::Header;
 use netlist::Image;
@@ -84,7 +84,7 @@ fn pad(image: &[u8], end: usize, bytes: usize) -> u16
     requires { ⌜ (end ≤ 8 * bytes) × ((8 * bytes < end + 8) × (bytes ≤ 2048)) ⌝ }
     ensures { λ r. ⌜ r ≡ fieldAt (now (image .entry)) end (8 * bytes - end) ⌝ }
 {
-    let taken = bits::run(image, end, 8 * bytes - end, 0, 0, 0, 0);
+    let taken = reader::run(image, end, 8 * bytes - end, 0, 0, 0, 0);
     taken.first
 }
 

@@ -5,7 +5,6 @@ ghost use Rattle.format.specs.Meaning.Layout.{countBits, netBits, bitsFo
 ghost use Rattle.format.specs.Meaning.Format.{countIn, cellAt, tailIn};
 ghost use Rattle.format.specs.Working.Scanning.{SpellsHeader, Narrow, SpellsCell};
 use crate::Layout;
-use crate::bits::run;
 
 // The fields of the header.
 pub struct Header {
@@ -20,7 +19,7 @@ pub fn header_of(image: &[u8]) -> Header
     ensures { λ r. ⌜ SpellsHeader (now (image .entry)) r ⌝ }
 {
     let size = Layout::SIZE_BITS;
-    let taken = run(image, 0, size, size, size, size, Layout::COUNT_BITS);
+    let taken = reader::run(image, 0, size, size, size, size, Layout::COUNT_BITS);
     Header {
         version: taken.first,
         inputs: taken.second,
@@ -66,7 +65,7 @@ pub fn cell(image: &[u8], i: usize) -> CellFields
     ensures { λ r. ⌜ SpellsCell (now (image .entry)) i r ⌝ }
 {
     let at = Layout::HEADER_BITS + Layout::CELL_BITS * i;
-    let taken = run(
+    let taken = reader::run(
         image,
         at,
         Layout::KIND_BITS,
@@ -88,7 +87,7 @@ pub fn tail(image: &[u8], count: usize, t: usize) -> u16
     ensures { λ r. ⌜ r ≡ tailIn (now (image .entry)) t ⌝ }
 {
     let at = tail_at(count, t);
-    let taken = run(image, at, Layout::NET_BITS, 0, 0, 0, 0);
+    let taken = reader::run(image, at, Layout::NET_BITS, 0, 0, 0, 0);
     taken.first
 }
 

@@ -11,7 +11,8 @@ use Rattle.numbers.proofs.Digits.{horner-cong}
 use Rattle.memory.specs.Meaning.Refusals.{Free, Lowest}
 use Rattle.format.specs.Meaning.Layout.{mostBytes, sizeBits, countBits, kindBits, netBits, inputsAt, latchesAt, outputsAt, countAt}
 use Rattle.format.proofs.Sizes.{bytes-le-most}
-use Rattle.format.specs.Meaning.Format.{bitAt, fieldAt, versionIn, inputsIn, latchesIn, outputsIn, countIn, netsIn, bitsIn, bytesIn, cellAt, kindIn, firstIn, secondIn, tailIn}
+use Rattle.reader.specs.Meaning.Fields.{bitAt, fieldAt}
+use Rattle.format.specs.Meaning.Format.{versionIn, inputsIn, latchesIn, outputsIn, countIn, netsIn, bitsIn, bytesIn, cellAt, kindIn, firstIn, secondIn, tailIn}
 use Rattle.format.specs.Meaning.Faults.{ImageFault, HeaderFault}
 use Rattle.format.specs.Working.Scanning.{WithinLimits}
 

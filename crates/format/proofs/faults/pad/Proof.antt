@@ -1,6 +1,6 @@
 -- `pad`: one field of less than a byte.
 use mathlib.Core.Path.{ap}
-use Rattle.format.specs.declared.bits.Numbers.{Numbers}
+use Rattle.reader.specs.declared.Numbers.{Numbers}
 use borrow.Author.Needs.{needs}
 use Rattle.format.proofs.faults.pad.Statement.{statement}
 use Rattle.format.proofs.faults.pad.Tie as tie

@@ -1,7 +1,7 @@
 -- `cell`: a run of three fields where the cell stands.
 use Rattle.format.specs.Meaning.Layout.{kindBits}
 use Rattle.format.specs.Meaning.Format.{cellAt}
-use Rattle.format.proofs.Spelling.{field-lt}
+use Rattle.reader.proofs.Spelling.{field-lt}
 use borrow.Author.Needs.{needs}
 use Rattle.format.proofs.fields.cell.Statement.{statement}
 use Rattle.format.proofs.fields.cell.Tie as tie

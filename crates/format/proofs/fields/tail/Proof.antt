@@ -1,6 +1,6 @@
 -- `tail`: the field at its place.
 use mathlib.Core.Path.{_∙_, ap}
-use Rattle.format.specs.declared.bits.Numbers.{Numbers}
+use Rattle.reader.specs.declared.Numbers.{Numbers}
 use borrow.Author.Needs.{needs}
 use Rattle.format.proofs.fields.tail.Statement.{statement}
 use Rattle.format.proofs.fields.tail.Tie as tie

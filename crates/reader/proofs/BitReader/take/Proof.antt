@@ -45,19 +45,19 @@ use denote.Triple.Table.{entered, cited}
 use denote.Triple.Walked.{says, needs, Stays, stay-none, walkOf, goes-none, Walks, ends-at, walked, walk-meets}
 use denote.Exit.{yes}
 use denote.Triple.Clauses.{ensured, lasts}
-use Rattle.format.specs.Meaning.Format.{fieldAt}
-use Rattle.format.specs.Working.Taking.{taken}
-use Rattle.format.specs.declared.bits.BitReader.{BitReader}
-use Rattle.format.proofs.bits.BitReader as T
-use Rattle.format.proofs.bits.BitReader.Laws as T′
-use Rattle.format.proofs.bits.spell as field
-use Rattle.format.proofs.bits.spell.Symbol as field-def
-use Rattle.format.proofs.bits.spell.Symbol.{name as #bits·field}
-use Rattle.format.proofs.bits.spell.Met as field-thm
-use Rattle.format.proofs.bits.BitReader.take.Key.{name as #bits·take}
-use Rattle.format.proofs.bits.BitReader.take as take
-use Rattle.format.proofs.bits.BitReader.take.Statement as stated
-use Rattle.format.proofs.bits.BitReader.take.Code as code
+use Rattle.reader.specs.Meaning.Fields.{fieldAt}
+use Rattle.reader.specs.Working.Taking.{taken}
+use Rattle.reader.specs.declared.BitReader.{BitReader}
+use Rattle.reader.proofs.BitReader as T
+use Rattle.reader.proofs.BitReader.Laws as T′
+use Rattle.reader.proofs.spell as field
+use Rattle.reader.proofs.spell.Symbol as field-def
+use Rattle.reader.proofs.spell.Symbol.{name as #bits·field}
+use Rattle.reader.proofs.spell.Met as field-thm
+use Rattle.reader.proofs.BitReader.take.Key.{name as #bits·take}
+use Rattle.reader.proofs.BitReader.take as take
+use Rattle.reader.proofs.BitReader.take.Statement as stated
+use Rattle.reader.proofs.BitReader.take.Code as code
 
 -- the struct's type, over the signature's lifetimes
 abbrev B : Lfts 1 → RattleType
@@ -184,4 +184,4 @@ take-spec 𝓤 H 𝓜 𝓖 𝓡 =
     entered 𝓤 H (tripleOf 𝓤 H (𝓖 .A) take.signature (take.spec 𝓤 H (𝓖 .A) (𝓜 .mem) (𝓡 .run)))
     (tables 𝓤 H 𝓜 𝓡 code.env .C) (tables 𝓤 H 𝓜 𝓡 code.env .Λ) #bits·take code.function (code.unfolded 𝓤 H 𝓜 𝓡)
     (take-meets 𝓤 H (𝓖 .A) (givenOf 𝓤 H 𝓜 𝓖) (𝓜 .mem) (𝓡 .run) (tablesOf 𝓤 H 𝓜 (tables 𝓤 H 𝓜 𝓡 code.env))
-    (cited 𝓤 H (Field 𝓤 H (𝓖 .A) (𝓜 .mem) (𝓡 .run)) 𝓜 𝓡 code.env #bits·field field-def.routine code.calls-format·bits·spell (field-thm.met 𝓤 H 𝓜 𝓖 𝓡)))
+    (cited 𝓤 H (Field 𝓤 H (𝓖 .A) (𝓜 .mem) (𝓡 .run)) 𝓜 𝓡 code.env #bits·field field-def.routine code.calls-reader·spell (field-thm.met 𝓤 H 𝓜 𝓖 𝓡)))

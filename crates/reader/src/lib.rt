@@ -1,8 +1,8 @@
 // Bits and bit fields of an image, and the reader that knows its bytes and its bit position.
 ghost use mathlib.Core.Path.{_≡_};
 ghost use Prim.Native.Nat.{_^_, _<_, _≤_};
-ghost use Rattle.format.specs.Meaning.Format.{bitAt, fieldAt};
-ghost use Rattle.format.specs.Working.Taking.{opened, taken, runAt};
+ghost use Rattle.reader.specs.Meaning.Fields.{bitAt, fieldAt};
+ghost use Rattle.reader.specs.Working.Taking.{opened, taken, runAt};
 
 // The numbers of five fields that stand in a row.
 pub struct Numbers {
@@ -14,15 +14,7 @@ pub struct Numbers {
 }
 
 // Takes five fields one behind the other, from bit `at` on; a field of no bits is 0. Whoever calls this has plain parameters.
-pub(crate) fn run(
-    image: &[u8],
-    at: usize,
-    a: usize,
-    b: usize,
-    c: usize,
-    d: usize,
-    e: usize,
-) -> Numbers
+pub fn run(image: &[u8], at: usize, a: usize, b: usize, c: usize, d: usize, e: usize) -> Numbers
     requires { ⌜ (at < 65472) × ((a ≤ 16) × ((b ≤ 16) × ((c ≤ 16) × ((d ≤ 16) × (e ≤ 16))))) ⌝ }
     ensures { λ r. ⌜ r ≡ runAt (now (image .entry)) at a b c d e ⌝ }
 {
@@ -49,7 +41,7 @@ pub struct BitReader<'a> {
 
 impl<'a> BitReader<'a> {
     // Takes the next field, of `width` bits, and moves on behind it.
-    pub(crate) fn take(self, width: usize) -> BitReader<'a>
+    pub fn take(self, width: usize) -> BitReader<'a>
         requires { ⌜ (self .at < 65536) × (width ≤ 16) ⌝ }
         ensures { λ r. ⌜ r ≡ taken (self .entry) width ⌝ }
     {
@@ -62,7 +54,7 @@ impl<'a> BitReader<'a> {
     }
 }
 
-pub(crate) fn open<'a>(image: &'a [u8], at: usize) -> BitReader<'a>
+pub fn open<'a>(image: &'a [u8], at: usize) -> BitReader<'a>
     ensures { λ r. ⌜ r ≡ opened (image .entry) at ⌝ }
 {
     BitReader {

@@ -5,9 +5,9 @@
 use Prim.Native.Nat.{ℕ, _+_}
 use mathlib.Core.List.{List}
 use denote.Ref.{RefT, now}
-use Rattle.format.specs.declared.bits.BitReader.{BitReader}
-use Rattle.format.specs.declared.bits.Numbers.{Numbers}
-use Rattle.format.specs.Meaning.Format.{fieldAt}
+use Rattle.reader.specs.declared.BitReader.{BitReader}
+use Rattle.reader.specs.declared.Numbers.{Numbers}
+use Rattle.reader.specs.Meaning.Fields.{fieldAt}
 
 abbrev pub opened : RefT (List ℕ) → ℕ → BitReader
 opened s n = record { image = s; at = n; number = 0 }

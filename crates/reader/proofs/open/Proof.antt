@@ -34,13 +34,13 @@ use denote.Triple.Spec.{Meets, tripleOf}
 use denote.Triple.Table.{entered}
 use denote.Triple.Walked.{says, Stays, stay-none, stay-none-slice, walkOf, goes-none, goes-none-slice, Walks, ends-at, walked, walk-meets}
 use denote.Exit.{yes}
-use Rattle.format.specs.declared.bits.BitReader.{BitReader}
-use Rattle.format.proofs.bits.BitReader as T
-use Rattle.format.proofs.bits.BitReader.Laws as T′
-use Rattle.format.proofs.bits.open.Key.{name as #bits·open}
-use Rattle.format.proofs.bits.open as opened
-use Rattle.format.proofs.bits.open.Statement as stated
-use Rattle.format.proofs.bits.open.Code as code
+use Rattle.reader.specs.declared.BitReader.{BitReader}
+use Rattle.reader.proofs.BitReader as T
+use Rattle.reader.proofs.BitReader.Laws as T′
+use Rattle.reader.proofs.open.Key.{name as #bits·open}
+use Rattle.reader.proofs.open as opened
+use Rattle.reader.proofs.open.Statement as stated
+use Rattle.reader.proofs.open.Code as code
 
 abbrev stayed : Stays (opened.ended .signature .params) (opened.ended .kept)
 stayed = (stay-none-slice (0 ∷ []) tt (plain (λ _. u8)) yes, (stay-none (λ _. usize) yes, tt))

@@ -42,25 +42,25 @@ use denote.Triple.Table.{entered, cited}
 use denote.Triple.Walked.{says, needs, Stays, stay-none, stay-none-slice, walkOf, goes-none, goes-none-slice, Walks, ends-at, walked, walk-meets}
 use denote.Exit.{yes}
 use denote.Triple.Clauses.{ensured, lasts}
-use Rattle.format.specs.Meaning.Format.{fieldAt}
-use Rattle.format.specs.Working.Taking.{opened, taken, runAt}
-use Rattle.format.specs.declared.bits.BitReader.{BitReader}
-use Rattle.format.proofs.bits.Numbers as R
-use Rattle.format.proofs.bits.Numbers.Laws as R′
-use Rattle.format.proofs.bits.BitReader as T
-use Rattle.format.proofs.bits.BitReader.Laws as T′
-use Rattle.format.proofs.bits.open as new
-use Rattle.format.proofs.bits.open.Symbol as new-def
-use Rattle.format.proofs.bits.open.Symbol.{name as #bits·open}
-use Rattle.format.proofs.bits.open.Met as new-thm
-use Rattle.format.proofs.bits.BitReader.take as next
-use Rattle.format.proofs.bits.BitReader.take.Symbol as next-def
-use Rattle.format.proofs.bits.BitReader.take.Symbol.{name as #bits·take}
-use Rattle.format.proofs.bits.BitReader.take.Met as next-thm
-use Rattle.format.proofs.bits.run.Key.{name as #bits·run}
-use Rattle.format.proofs.bits.run as ran
-use Rattle.format.proofs.bits.run.Statement as stated
-use Rattle.format.proofs.bits.run.Code as code
+use Rattle.reader.specs.Meaning.Fields.{fieldAt}
+use Rattle.reader.specs.Working.Taking.{opened, taken, runAt}
+use Rattle.reader.specs.declared.BitReader.{BitReader}
+use Rattle.reader.proofs.Numbers as R
+use Rattle.reader.proofs.Numbers.Laws as R′
+use Rattle.reader.proofs.BitReader as T
+use Rattle.reader.proofs.BitReader.Laws as T′
+use Rattle.reader.proofs.open as new
+use Rattle.reader.proofs.open.Symbol as new-def
+use Rattle.reader.proofs.open.Symbol.{name as #bits·open}
+use Rattle.reader.proofs.open.Met as new-thm
+use Rattle.reader.proofs.BitReader.take as next
+use Rattle.reader.proofs.BitReader.take.Symbol as next-def
+use Rattle.reader.proofs.BitReader.take.Symbol.{name as #bits·take}
+use Rattle.reader.proofs.BitReader.take.Met as next-thm
+use Rattle.reader.proofs.run.Key.{name as #bits·run}
+use Rattle.reader.proofs.run as ran
+use Rattle.reader.proofs.run.Statement as stated
+use Rattle.reader.proofs.run.Code as code
 
 -- the struct's type, over the signature's lifetimes
 abbrev B : Lfts 1 → RattleType
@@ -234,5 +234,5 @@ run-spec 𝓤 H 𝓜 𝓖 𝓡 =
     entered 𝓤 H (tripleOf 𝓤 H (𝓖 .A) ran.signature (ran.spec 𝓤 H (𝓖 .A) (𝓜 .mem) (𝓡 .run)))
     (tables 𝓤 H 𝓜 𝓡 code.env .C) (tables 𝓤 H 𝓜 𝓡 code.env .Λ) #bits·run code.function (code.unfolded 𝓤 H 𝓜 𝓡)
     (run-meets 𝓤 H (𝓖 .A) (givenOf 𝓤 H 𝓜 𝓖) (𝓜 .mem) (𝓡 .run) (tablesOf 𝓤 H 𝓜 (tables 𝓤 H 𝓜 𝓡 code.env))
-    (cited 𝓤 H (New 𝓤 H (𝓖 .A) (𝓜 .mem) (𝓡 .run)) 𝓜 𝓡 code.env #bits·open new-def.routine code.calls-format·bits·open (new-thm.met 𝓤 H 𝓜 𝓖 𝓡))
-    (cited 𝓤 H (Next 𝓤 H (𝓖 .A) (𝓜 .mem) (𝓡 .run)) 𝓜 𝓡 code.env #bits·take next-def.routine code.calls-format·bits·BitReader·take (next-thm.met 𝓤 H 𝓜 𝓖 𝓡)))
+    (cited 𝓤 H (New 𝓤 H (𝓖 .A) (𝓜 .mem) (𝓡 .run)) 𝓜 𝓡 code.env #bits·open new-def.routine code.calls-reader·open (new-thm.met 𝓤 H 𝓜 𝓖 𝓡))
+    (cited 𝓤 H (Next 𝓤 H (𝓖 .A) (𝓜 .mem) (𝓡 .run)) 𝓜 𝓡 code.env #bits·take next-def.routine code.calls-reader·BitReader·take (next-thm.met 𝓤 H 𝓜 𝓖 𝓡)))
