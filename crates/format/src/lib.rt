@@ -6,7 +6,7 @@ ghost use mathlib.Core.Path.{_≡_};
 ghost use Rattle.format.specs.Meaning.Layout.{mostBytes};
 use netlist::Image;
 
-// How an image is laid out: the widths and places of its fields, named once.
+// How an image is laid out: the widths of its fields, of the header and of a cell, named once.
 pub struct Layout {}
 
 impl Layout {
