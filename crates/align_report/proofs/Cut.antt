@@ -10,7 +10,8 @@ use Rattle.numbers.specs.Meaning.Bits.{bitOf}
 use Rattle.memory.specs.Meaning.Refusals.{Free, First}
 use Rattle.format.specs.Meaning.Layout.{mostBytes}
 use Rattle.format.proofs.Sizes.{bytes-le-most}
-use Rattle.format.specs.Meaning.Format.{bitAt, latchesIn, outputsIn, countIn, bytesIn}
+use Rattle.reader.specs.Meaning.Fields.{bitAt}
+use Rattle.format.specs.Meaning.Format.{latchesIn, outputsIn, countIn, bytesIn}
 use Rattle.format.specs.Meaning.Faults.{ImageFault, HeaderFault}
 use Rattle.format.proofs.Refusals.{within-limits}
 use Rattle.image.proofs.Long.{SameFront, same-bytes-in, header-there, free-there, never-free, lowest-there}

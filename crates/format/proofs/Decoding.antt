@@ -24,7 +24,7 @@ use Rattle.netlist.specs.Meaning.Nets.{gateAt}
 use Rattle.format.specs.Meaning.Format.{inputsIn, latchesIn, outputsIn, countIn, bitsIn, bytesIn, kindIn, firstIn, secondIn, tailIn, gateIn, cellIn, cellAt, decoded, tailNet, bitsOf, Encodes}
 use Rattle.format.specs.Meaning.Faults.{ImageFault}
 use Rattle.format.specs.Working.Scanning.{WithinLimits}
-use Rattle.format.proofs.Spelling.{field-lt}
+use Rattle.reader.proofs.Spelling.{field-lt}
 use Rattle.format.proofs.Gates.{kind-gate, first-gate, second-gate}
 
 -- the design that bytes spell, entry by entry

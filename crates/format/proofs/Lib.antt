@@ -1,7 +1,7 @@
 pub mod Sizes
-pub mod Spelling
 pub mod Gates
 pub mod Refusals
+pub mod Headers
 pub mod Decoding
 pub mod Carried
 pub mod Order

@@ -11,11 +11,12 @@ use Rattle.memory.proofs.Refusals.{Clean, clean-more, no-number}
 use Rattle.memory.proofs.Table.{lowest-of-first}
 use Rattle.netlist.specs.Meaning.Faults.{DesignFault}
 use Rattle.netlist.proofs.Numbers.{Kind, three, five, nine, kind, design-numbered}
-use Rattle.format.specs.Meaning.Format.{bitAt, fieldAt, countIn, netsIn, bitsIn, bytesIn, decoded}
+use Rattle.reader.specs.Meaning.Fields.{bitAt, fieldAt}
+use Rattle.format.specs.Meaning.Format.{countIn, netsIn, bitsIn, bytesIn, decoded}
 use Rattle.format.specs.Meaning.Faults.{ImageFault, HeaderFault}
 use Rattle.format.specs.Working.Scanning.{UnreadAbove, UnreadBelow}
 use Rattle.format.proofs.Refusals.{small, refused, no-6, no-7, no-8, within-limits, clean-5}
-use Rattle.format.proofs.Spelling.{zero-bits, field-some}
+use Rattle.reader.proofs.Spelling.{zero-bits, field-some}
 use Rattle.format.proofs.Decoding.{Decodes, decodes}
 use Rattle.format.proofs.Carried.{image-3, image-5, no-5}
 

@@ -10,7 +10,8 @@ use Rattle.numbers.proofs.Order.{not-lt, le-of-not-lt}
 use Rattle.memory.specs.Meaning.Refusals.{Free, FirstOrNone}
 use Rattle.memory.specs.Working.Lowest.{Numbered}
 use Rattle.memory.proofs.Refusals.{Clean, clean-more, lowest-number, no-number}
-use Rattle.format.specs.Meaning.Format.{bitAt, versionIn, countIn, bitsIn, bytesIn, kindIn, secondIn}
+use Rattle.reader.specs.Meaning.Fields.{bitAt}
+use Rattle.format.specs.Meaning.Format.{versionIn, countIn, bitsIn, bytesIn, kindIn, secondIn}
 use Rattle.format.specs.Meaning.Faults.{ImageFault, HeaderFault}
 use Rattle.format.specs.Working.Scanning.{WithinLimits}
 

@@ -1,47 +1,53 @@
 // What is wrong with an image.
-ghost use Prim.Native.Nat.{_<_, _≤_};
+ghost use mathlib.Core.Path.{_≡_};
+ghost use mathlib.Core.List.{List};
+ghost use Prim.Native.Nat.{ℕ, _+_, _-_, _*_, _^_, _<_, _≤_};
+ghost use lib.ListN.{length};
 ghost use Rattle.memory.specs.Meaning.Refusals.{Free, FirstOrNone};
 ghost use Rattle.memory.specs.Working.Tests.{Tells, Splits};
 ghost use Rattle.netlist.specs.Meaning.Faults.{DesignFault};
+ghost use Rattle.format.specs.Meaning.Layout.{countBits};
+ghost use Rattle.reader.specs.Meaning.Fields.{fieldAt};
 ghost use Rattle.format.specs.Meaning.Format.{decoded, countIn};
 ghost use Rattle.format.specs.Meaning.Faults.{ImageFault, HeaderFault};
-ghost use Rattle.format.specs.Working.Scanning.{UnreadAbove, UnreadBelow};
-use crate::bits;
+ghost use Rattle.format.specs.Working.Scanning.{Narrow, SpellsHeader, UnreadAbove, UnreadBelow};
 use crate::fields;
+use crate::fields::Header;
 use netlist::Image;
 
-// The lowest number up to 4 that applies, or 0.
-pub fn header_fault(image: &[u8]) -> u8
-    ensures { λ r. ⌜ FirstOrNone (HeaderFault (now (image .entry))) r ⌝ }
+// The lowest number up to 4 that applies to an image of so many bytes with this header, or 0.
+pub fn header_fault(bytes: usize, h: Header) -> u8
+    requires { ⌜ Narrow h ⌝ }
+    ensures { λ r. ⌜ ((b : List ℕ) → length b ≡ bytes → SpellsHeader b h → FirstOrNone (HeaderFault b) r) ⌝ }
 {
-    if image.len() < 4 {
+    if bytes < 4 {
         return 1;
     }
-    if fields::version(image) != 1 {
+    if h.version != 1 {
         return 2;
     }
-    if over_limit(image) {
+    if over_limit(h) {
         return 3;
     }
-    if image.len() < fields::bytes(image) {
+    if bytes < fields::bytes(h) {
         return 4;
     }
     0
 }
 
-fn over_limit(image: &[u8]) -> bool
-    ensures { λ r. ⌜ Tells r (ImageFault (now (image .entry)) 3) ⌝ }
+fn over_limit(h: Header) -> bool
+    ensures { λ r. ⌜ ((b : List ℕ) → SpellsHeader b h → Tells r (ImageFault b 3)) ⌝ }
 {
-    if fields::inputs(image) as usize > Image::MOST_INPUTS {
+    if h.inputs as usize > Image::MOST_INPUTS {
         return true;
     }
-    if fields::latches(image) as usize > Image::MOST_LATCHES {
+    if h.latches as usize > Image::MOST_LATCHES {
         return true;
     }
-    if fields::outputs(image) as usize > Image::MOST_OUTPUTS {
+    if h.outputs as usize > Image::MOST_OUTPUTS {
         return true;
     }
-    if fields::count(image) as usize > Image::MOST_CELLS {
+    if h.count as usize > Image::MOST_CELLS {
         return true;
     }
     false
@@ -49,22 +55,22 @@ fn over_limit(image: &[u8]) -> bool
 
 // The lowest number that applies to an image whose header is sound, or 0. `found` is what its design was found to have: that is 5 for
 // a net that is read, and 9. Nets that no cell reads, the pad and the length are left to look at.
-pub fn field_fault(image: &[u8], found: u8) -> u8
-    requires { ⌜ (Free (HeaderFault (now image))) × (FirstOrNone (DesignFault (decoded (now image))) found) ⌝ }
+pub fn field_fault(image: &[u8], h: Header, found: u8) -> u8
+    requires { ⌜ (SpellsHeader (now image) h) × ((Free (HeaderFault (now image))) × (FirstOrNone (DesignFault (decoded (now image))) found)) ⌝ }
     ensures { λ r. ⌜ FirstOrNone (ImageFault (now (image .entry))) r ⌝ }
 {
     if found == 5 {
         return 5;
     }
-    if unread_above(image, fields::nets(image) - 1) {
+    let count = h.count as usize;
+    if unread_above(image, count, fields::nets(h) - 1) {
         return 5;
     }
-    if unread_above(image, 0) {
+    if unread_above(image, count, 0) {
         return 6;
     }
-    let end = fields::bits(image);
-    let bytes = fields::bytes(image);
-    if bits::field(image, end, 8 * bytes - end) != 0 {
+    let bytes = fields::bytes(h);
+    if pad(image, fields::bits(h), bytes) != 0 {
         return 7;
     }
     if image.len() > bytes {
@@ -73,11 +79,20 @@ pub fn field_fault(image: &[u8], found: u8) -> u8
     found
 }
 
-// Whether the second net of some cell that reads one net is above `most`.
-fn unread_above(image: &[u8], most: u16) -> bool
+// The number that the bits from `end` to the end of the image's last byte spell.
+fn pad(image: &[u8], end: usize, bytes: usize) -> u16
+    requires { ⌜ (end ≤ 8 * bytes) × ((8 * bytes < end + 8) × (bytes ≤ 2048)) ⌝ }
+    ensures { λ r. ⌜ r ≡ fieldAt (now (image .entry)) end (8 * bytes - end) ⌝ }
+{
+    let taken = reader::run(image, end, 8 * bytes - end, 0, 0, 0, 0);
+    taken.first
+}
+
+// Whether the second net of some cell that reads one net is above `most`; there are `count` cells.
+fn unread_above(image: &[u8], count: usize, most: u16) -> bool
+    requires { ⌜ (count ≡ countIn (now image)) × (count < 2 ^ countBits) ⌝ }
     ensures { λ r. ⌜ Splits r (UnreadAbove (now (image .entry)) most) (UnreadBelow (now (image .entry)) most (countIn (now (image .entry)))) ⌝ }
 {
-    let count = fields::count(image) as usize;
     let mut i = 0;
     while i < count {
         let cell = fields::cell(image, i);

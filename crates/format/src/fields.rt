@@ -1,62 +1,56 @@
 // The fields of an image, each where the format has it.
 ghost use mathlib.Core.Path.{_≡_};
 ghost use Prim.Native.Nat.{_+_, _*_, _^_, _<_, _≤_};
-ghost use Rattle.format.specs.Meaning.Layout.{sizeBits, countBits, netBits};
-ghost use Rattle.format.specs.Meaning.Format.{versionIn, inputsIn, latchesIn, outputsIn, countIn, netsIn, bitsIn, bytesIn, cellAt, tailIn};
-ghost use Rattle.format.specs.Working.Scanning.{SpellsCell};
+ghost use Rattle.format.specs.Meaning.Layout.{countBits, netBits, bitsFor, bytesFor};
+ghost use Rattle.format.specs.Meaning.Format.{countIn, cellAt, tailIn};
+ghost use Rattle.format.specs.Working.Scanning.{SpellsHeader, Narrow, SpellsCell};
 use crate::Layout;
-use crate::bits::field;
 
-pub fn version(image: &[u8]) -> u16
-    ensures { λ r. ⌜ r ≡ versionIn (now (image .entry)) ⌝ }
-{
-    field(image, 0, Layout::SIZE_BITS)
+// The fields of the header.
+pub struct Header {
+    pub version: u16,
+    pub inputs: u16,
+    pub latches: u16,
+    pub outputs: u16,
+    pub count: u16,
 }
 
-pub fn inputs(image: &[u8]) -> u16
-    ensures { λ r. ⌜ (r ≡ inputsIn (now (image .entry))) × (r < 2 ^ sizeBits) ⌝ }
+pub fn header_of(image: &[u8]) -> Header
+    ensures { λ r. ⌜ SpellsHeader (now (image .entry)) r ⌝ }
 {
-    field(image, Layout::INPUTS_AT, Layout::SIZE_BITS)
-}
-
-pub fn latches(image: &[u8]) -> u16
-    ensures { λ r. ⌜ (r ≡ latchesIn (now (image .entry))) × (r < 2 ^ sizeBits) ⌝ }
-{
-    field(image, Layout::LATCHES_AT, Layout::SIZE_BITS)
-}
-
-pub fn outputs(image: &[u8]) -> u16
-    ensures { λ r. ⌜ (r ≡ outputsIn (now (image .entry))) × (r < 2 ^ sizeBits) ⌝ }
-{
-    field(image, Layout::OUTPUTS_AT, Layout::SIZE_BITS)
-}
-
-pub fn count(image: &[u8]) -> u16
-    ensures { λ r. ⌜ (r ≡ countIn (now (image .entry))) × (r < 2 ^ countBits) ⌝ }
-{
-    field(image, Layout::COUNT_AT, Layout::COUNT_BITS)
+    let size = Layout::SIZE_BITS;
+    let taken = reader::run(image, 0, size, size, size, size, Layout::COUNT_BITS);
+    Header {
+        version: taken.first,
+        inputs: taken.second,
+        latches: taken.third,
+        outputs: taken.fourth,
+        count: taken.fifth,
+    }
 }
 
 // How many nets the header gives.
-pub fn nets(image: &[u8]) -> u16
-    ensures { λ r. ⌜ r ≡ netsIn (now (image .entry)) ⌝ }
+pub fn nets(h: Header) -> u16
+    requires { ⌜ Narrow h ⌝ }
+    ensures { λ r. ⌜ (r ≡ 2 + h .inputs + h .latches + h .count) × (2 ≤ r) ⌝ }
 {
-    2 + inputs(image) + latches(image) + count(image)
+    2 + h.inputs + h.latches + h.count
 }
 
 // How many bits the fields take.
-pub fn bits(image: &[u8]) -> usize
-    ensures { λ r. ⌜ (r ≡ bitsIn (now (image .entry))) × (r < 16384) ⌝ }
+pub fn bits(h: Header) -> usize
+    requires { ⌜ Narrow h ⌝ }
+    ensures { λ r. ⌜ (r ≡ bitsFor (h .count) (h .latches) (h .outputs)) × (r < 16384) ⌝ }
 {
-    let tails = latches(image) as usize + outputs(image) as usize;
-    tail_at(count(image) as usize, tails)
+    tail_at(h.count as usize, h.latches as usize + h.outputs as usize)
 }
 
 // How many bytes the image takes, the pad with it.
-pub fn bytes(image: &[u8]) -> usize
-    ensures { λ r. ⌜ (r ≡ bytesIn (now (image .entry))) × (r ≤ 2048) ⌝ }
+pub fn bytes(h: Header) -> usize
+    requires { ⌜ Narrow h ⌝ }
+    ensures { λ r. ⌜ (r ≡ bytesFor (h .count) (h .latches) (h .outputs)) × (r ≤ 2048) ⌝ }
 {
-    (bits(image) + 7) / 8
+    (bits(h) + 7) / 8
 }
 
 // The fields of a cell.
@@ -71,24 +65,30 @@ pub fn cell(image: &[u8], i: usize) -> CellFields
     ensures { λ r. ⌜ SpellsCell (now (image .entry)) i r ⌝ }
 {
     let at = Layout::HEADER_BITS + Layout::CELL_BITS * i;
+    let taken = reader::run(
+        image,
+        at,
+        Layout::KIND_BITS,
+        Layout::NET_BITS,
+        Layout::NET_BITS,
+        0,
+        0,
+    );
     CellFields {
-        kind: field(image, at, Layout::KIND_BITS),
-        first: field(image, at + Layout::KIND_BITS, Layout::NET_BITS),
-        second: field(
-            image,
-            at + Layout::KIND_BITS + Layout::NET_BITS,
-            Layout::NET_BITS,
-        ),
+        kind: taken.first,
+        first: taken.second,
+        second: taken.third,
     }
 }
 
-// Net t behind the cells.
-pub fn tail(image: &[u8], t: usize) -> u16
-    requires { ⌜ t < 2 ^ netBits ⌝ }
+// Net t behind the cells, of which there are `count`.
+pub fn tail(image: &[u8], count: usize, t: usize) -> u16
+    requires { ⌜ (count ≡ countIn (now image)) × ((count < 2 ^ countBits) × (t < 2 ^ netBits)) ⌝ }
     ensures { λ r. ⌜ r ≡ tailIn (now (image .entry)) t ⌝ }
 {
-    let at = tail_at(count(image) as usize, t);
-    field(image, at, Layout::NET_BITS)
+    let at = tail_at(count, t);
+    let taken = reader::run(image, at, Layout::NET_BITS, 0, 0, 0, 0);
+    taken.first
 }
 
 // Where net t behind the cells stands.

@@ -1,5 +1,4 @@
-// The format of the netlist image: how wide its fields are and where they stand, the reader of them, and what is wrong with an image.
-mod bits;
+// The format of the netlist image: how wide its fields are and where they stand, what they hold, and what is wrong with an image.
 pub mod faults;
 pub mod fields;
 
@@ -7,7 +6,7 @@ ghost use mathlib.Core.Path.{_≡_};
 ghost use Rattle.format.specs.Meaning.Layout.{mostBytes};
 use netlist::Image;
 
-// How an image is laid out: the widths and places of its fields, named once.
+// How an image is laid out: the widths of its fields, of the header and of a cell, named once.
 pub struct Layout {}
 
 impl Layout {
@@ -16,15 +15,7 @@ impl Layout {
 
     pub const COUNT_BITS: usize = 9;
 
-    pub const INPUTS_AT: usize = Layout::SIZE_BITS;
-
-    pub const LATCHES_AT: usize = Layout::INPUTS_AT + Layout::SIZE_BITS;
-
-    pub const OUTPUTS_AT: usize = Layout::LATCHES_AT + Layout::SIZE_BITS;
-
-    pub const COUNT_AT: usize = Layout::OUTPUTS_AT + Layout::SIZE_BITS;
-
-    pub const HEADER_BITS: usize = Layout::COUNT_AT + Layout::COUNT_BITS;
+    pub const HEADER_BITS: usize = 4 * Layout::SIZE_BITS + Layout::COUNT_BITS;
 
     pub const KIND_BITS: usize = 3;
 

@@ -10,7 +10,8 @@ use Rattle.memory.specs.Meaning.Lists.{listOf}
 use Rattle.memory.specs.Meaning.Refusals.{Free}
 use Rattle.netlist.specs.Meaning.Loops.{Path}
 use Rattle.netlist.specs.Meaning.Faults.{DesignFault, Accepted}
-use Rattle.format.specs.Meaning.Format.{bitAt, fieldAt, decoded, bitsOf, Encodes}
+use Rattle.reader.specs.Meaning.Fields.{bitAt, fieldAt}
+use Rattle.format.specs.Meaning.Format.{decoded, bitsOf, Encodes}
 use Rattle.format.specs.Meaning.Faults.{ImageFault}
 use Rattle.image.specs.Meaning.Reading.{emptyDesign}
 use Rattle.image.proofs.Accepted.{clean}

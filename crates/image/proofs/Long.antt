@@ -13,7 +13,8 @@ use Rattle.memory.specs.Working.Lowest.{Lowest}
 use Rattle.memory.proofs.Table.{first-of-lowest, lowest-of-first}
 use Rattle.format.specs.Meaning.Layout.{mostBytes, sizeBits, countBits, kindBits, netBits, inputsAt, latchesAt, outputsAt, countAt}
 use Rattle.format.proofs.Sizes.{bytes-le-most}
-use Rattle.format.specs.Meaning.Format.{bitAt, fieldAt, versionIn, inputsIn, latchesIn, outputsIn, countIn, netsIn, bitsIn, bytesIn, cellAt, kindIn, firstIn, secondIn, tailIn}
+use Rattle.reader.specs.Meaning.Fields.{bitAt, fieldAt}
+use Rattle.format.specs.Meaning.Format.{versionIn, inputsIn, latchesIn, outputsIn, countIn, netsIn, bitsIn, bytesIn, cellAt, kindIn, firstIn, secondIn, tailIn}
 use Rattle.format.specs.Meaning.Faults.{ImageFault, HeaderFault}
 use Rattle.format.specs.Working.Scanning.{WithinLimits}
 use Rattle.format.proofs.Refusals.{image-numbered, header-numbered}

@@ -7,32 +7,33 @@ ghost use Rattle.memory.specs.Working.Filling.{Filled};
 ghost use Rattle.netlist.specs.Meaning.Limits.{mostCells};
 ghost use Rattle.format.specs.Meaning.Layout.{countBits, kindBits, netBits};
 ghost use Rattle.netlist.specs.Meaning.Gates.{gateOf, blankCell};
-ghost use Rattle.format.specs.Meaning.Format.{gateIn, cellIn, tailIn, decoded};
+ghost use Rattle.format.specs.Meaning.Format.{countIn, gateIn, cellIn, tailIn, decoded};
 ghost use Rattle.image.specs.Meaning.Reading.{emptyDesign};
-ghost use Rattle.format.specs.Working.Scanning.{WithinLimits};
+ghost use Rattle.format.specs.Working.Scanning.{SpellsHeader, WithinLimits};
 use format::fields;
+use format::fields::Header;
 use netlist::Cell;
 use netlist::Design;
 use netlist::Gate;
 use netlist::Image;
 
-pub(crate) fn decode(image: &[u8]) -> Design
-    requires { ⌜ WithinLimits (now image) ⌝ }
+pub(crate) fn decode(image: &[u8], h: Header) -> Design
+    requires { ⌜ (SpellsHeader (now image) h) × (WithinLimits (now image)) ⌝ }
     ensures { λ r. ⌜ r ≡ decoded (now (image .entry)) ⌝ }
 {
-    let latches = fields::latches(image);
-    let outputs = fields::outputs(image);
-    let count = fields::count(image);
-    let cells = cells_of(image, count as usize);
+    let count = h.count as usize;
+    let latches = h.latches as usize;
+    let outputs = h.outputs as usize;
+    let cells = cells_of(image, count);
     let mut data = [0u16; Image::MOST_LATCHES];
-    take_nets(image, 0, latches as usize, &mut data);
+    take_nets(image, count, 0, latches, &mut data);
     let mut shown = [0u16; Image::MOST_OUTPUTS];
-    take_nets(image, latches as usize, outputs as usize, &mut shown);
+    take_nets(image, count, latches, outputs, &mut shown);
     Design {
-        inputs: fields::inputs(image) as u8,
-        latches: latches as u8,
-        outputs: outputs as u8,
-        count,
+        inputs: h.inputs as u8,
+        latches: h.latches as u8,
+        outputs: h.outputs as u8,
+        count: h.count,
         cells,
         data,
         shown,
@@ -106,14 +107,14 @@ fn two_nets(kind: u16, a: u16, b: u16) -> Gate
     }
 }
 
-// Puts n nets behind the cells, from net t on, into a list of zeros.
-fn take_nets(image: &[u8], t: usize, n: usize, nets: &mut [u16])
-    requires { ⌜ (t + n < 2 ^ netBits) × (n ≤ length (now nets)) × (Zero (now nets)) ⌝ }
+// Puts n nets behind the cells, of which there are `count`, from net t on, into a list of zeros.
+fn take_nets(image: &[u8], count: usize, t: usize, n: usize, nets: &mut [u16])
+    requires { ⌜ ((count ≡ countIn (now image)) × (count < 2 ^ countBits)) × ((t + n < 2 ^ netBits) × ((n ≤ length (now nets)) × (Zero (now nets)))) ⌝ }
     ensures { λ _. ⌜ Filled (λ k. tailIn (now (image .entry)) (t + k)) 0 (length (now (nets .entry))) n (now (nets .exit)) ⌝ }
 {
     let mut k = 0;
     while k < n {
-        nets[k] = fields::tail(image, t + k);
+        nets[k] = fields::tail(image, count, t + k);
         k += 1;
     }
 }

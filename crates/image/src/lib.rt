@@ -16,11 +16,12 @@ pub enum Length {
 pub fn length_of(image: &[u8]) -> Length
     ensures { λ r. ⌜ Measures (now (image .entry)) r ⌝ }
 {
-    let number = faults::header_fault(image);
+    let h = fields::header_of(image);
+    let number = faults::header_fault(image.len(), h);
     if number != 0 {
         return Length::Refused(number);
     }
-    Length::Bytes(fields::bytes(image))
+    Length::Bytes(fields::bytes(h))
 }
 
 pub enum Answer {
@@ -38,12 +39,13 @@ pub struct Reading {
 pub fn read(image: &[u8]) -> Reading
     ensures { λ r. ⌜ ReadsImage (now (image .entry)) r ⌝ }
 {
-    let number = faults::header_fault(image);
+    let h = fields::header_of(image);
+    let number = faults::header_fault(image.len(), h);
     if number != 0 {
         return refusal(number);
     }
-    let design = decode::decode(image);
-    let number = faults::field_fault(image, order::fault_of(design));
+    let design = decode::decode(image, h);
+    let number = faults::field_fault(image, h, order::fault_of(design));
     if number != 0 {
         return refusal(number);
     }

@@ -8,7 +8,7 @@ use lib.ListN.{length, getD, take}
 use lib.Seq.{getD-take, take-all, length-take-le}
 use Rattle.numbers.specs.Meaning.Bits.{bitOf}
 use Rattle.memory.proofs.Orders.{first-unique}
-use Rattle.format.specs.Meaning.Format.{bitAt}
+use Rattle.reader.specs.Meaning.Fields.{bitAt}
 use Rattle.image.proofs.Long.{SameFront, never-free, lowest-there}
 use Rattle.pieces.specs.Meaning.Pieces.{lastField}
 use Rattle.streams.specs.declared.Input.{Input}

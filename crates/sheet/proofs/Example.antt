@@ -13,7 +13,8 @@ use Rattle.memory.specs.Meaning.Slices.{ZeroFrom}
 use Rattle.memory.proofs.Computed.{passes}
 use Rattle.netlist.specs.declared.Design.{Design}
 use Rattle.netlist.specs.Meaning.Faults.{Accepted}
-use Rattle.format.specs.Meaning.Format.{bitAt, fieldAt, decoded}
+use Rattle.reader.specs.Meaning.Fields.{bitAt, fieldAt}
+use Rattle.format.specs.Meaning.Format.{decoded}
 use Rattle.format.specs.Meaning.Faults.{ImageFault, HeaderFault}
 use Rattle.image.proofs.Accepted.{image-accepted}
 use Rattle.machine.specs.declared.Pair.{Pair}

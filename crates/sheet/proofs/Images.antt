@@ -14,7 +14,8 @@ use Rattle.memory.proofs.Computed.{every, every-at, and-left, and-right, passes
 use Rattle.netlist.specs.Meaning.Gates.{truth}
 use Rattle.netlist.specs.Meaning.Loops.{Path}
 use Rattle.netlist.specs.Meaning.Nets.{settled, nextState, outputs}
-use Rattle.format.specs.Meaning.Format.{bitAt, fieldAt, decoded}
+use Rattle.reader.specs.Meaning.Fields.{bitAt, fieldAt}
+use Rattle.format.specs.Meaning.Format.{decoded}
 use Rattle.format.specs.Meaning.Faults.{ImageFault}
 use Rattle.format.proofs.Refusals.{image-numbered}
 use Rattle.sheet.specs.Meaning.Sheet.{imageP, imageQ, imageM, imageH, imageRing, imagePad, Drawn}

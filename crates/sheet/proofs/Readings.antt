@@ -8,7 +8,8 @@ use Rattle.memory.specs.Meaning.Lists.{listOf}
 use Rattle.netlist.specs.Meaning.Gates.{truth}
 use Rattle.netlist.specs.Meaning.Nets.{settled}
 use Rattle.simulator.specs.Meaning.Clock.{IsStep}
-use Rattle.format.specs.Meaning.Format.{bitAt, fieldAt, decoded}
+use Rattle.reader.specs.Meaning.Fields.{bitAt, fieldAt}
+use Rattle.format.specs.Meaning.Format.{decoded}
 use Rattle.machine.specs.declared.Pair.{Pair}
 use Rattle.machine.specs.Meaning.Rounds.{A, Unchanged, FirstUnchanged}
 use Rattle.machine.specs.Meaning.Tables.{In, Ok}

@@ -4,7 +4,8 @@ use mathlib.Core.List.{[], _∷_}
 use native.Mathlib.Omega.{arith}
 use lib.Dec.{lit<}
 use Rattle.numbers.specs.Meaning.Bits.{horner}
-use Rattle.format.specs.Meaning.Format.{bitAt, fieldAt, decoded}
+use Rattle.reader.specs.Meaning.Fields.{bitAt, fieldAt}
+use Rattle.format.specs.Meaning.Format.{decoded}
 use Rattle.image.proofs.Empty.{empty-read}
 use Rattle.machine.specs.Meaning.Tables.{pairs, Ok}
 use Rattle.machine.specs.Working.Pairs.{SameMachine}

@@ -16,11 +16,12 @@ use Rattle.netlist.specs.Meaning.Limits.{mostInputs, mostLatches, mostOutputs, 
 use Rattle.netlist.specs.Meaning.Gates.{firstOf, secondOf}
 use Rattle.netlist.specs.Meaning.Nets.{cellBase, gateAt}
 use Rattle.netlist.specs.Meaning.Loops.{Reads, Path}
-use Rattle.format.specs.Meaning.Format.{bitAt, fieldAt, versionIn, inputsIn, latchesIn, outputsIn, countIn, netsIn, bitsIn, bytesIn, kindIn, firstIn, secondIn, tailIn, decoded}
+use Rattle.reader.specs.Meaning.Fields.{bitAt, fieldAt}
+use Rattle.format.specs.Meaning.Format.{versionIn, inputsIn, latchesIn, outputsIn, countIn, netsIn, bitsIn, bytesIn, kindIn, firstIn, secondIn, tailIn, decoded}
 use Rattle.format.specs.Meaning.Faults.{ImageFault}
 use Rattle.format.specs.Working.Scanning.{WithinLimits}
 use Rattle.format.proofs.Refusals.{small, no-3, no-4, no-6, no-7, no-8, clean-4}
-use Rattle.format.proofs.Spelling.{zero-bits}
+use Rattle.reader.proofs.Spelling.{zero-bits}
 
 -- 1 to 6 find nothing: length and version; sizes and bytes; nets; unread nets
 abbrev pub fieldTests : List ℕ → List Bool

@@ -16,8 +16,9 @@ use Rattle.format.specs.Meaning.Layout.{kindBits, sizeBits, countBits, inputsAt
 use Rattle.netlist.specs.Meaning.Gates.{kindOf, firstOf, secondOf}
 use Rattle.netlist.specs.Meaning.Nets.{gateAt, netsOf}
 use Rattle.netlist.specs.Working.Sound.{Sound}
-use Rattle.format.specs.Meaning.Format.{bitAt, fieldAt, versionIn, inputsIn, latchesIn, outputsIn, countIn, kindIn, firstIn, secondIn, cellAt, tailNet, bitsOf, bytesOf, Encodes}
-use Rattle.format.proofs.Spelling.{field-of, field-lt}
+use Rattle.reader.specs.Meaning.Fields.{bitAt, fieldAt}
+use Rattle.format.specs.Meaning.Format.{versionIn, inputsIn, latchesIn, outputsIn, countIn, kindIn, firstIn, secondIn, cellAt, tailNet, bitsOf, bytesOf, Encodes}
+use Rattle.reader.proofs.Spelling.{field-of, field-lt}
 use Rattle.format.proofs.Gates.{kind-lt}
 use Rattle.format.proofs.Carried.{tail-cases}
 use Rattle.writer.specs.Meaning.Writing.{HoldsImage}

@@ -13,8 +13,9 @@ use Rattle.numbers.specs.Meaning.Bits.{bitOf}
 use Rattle.netlist.specs.declared.Design.{Design}
 use Rattle.format.specs.Meaning.Layout.{sizeBits, countBits, kindBits, netBits, headerBits, cellBits, latchesAt, outputsAt, countAt}
 use Rattle.netlist.specs.Meaning.Nets.{gateAt}
-use Rattle.format.specs.Meaning.Format.{bitAt, fieldAt, versionIn, inputsIn, latchesIn, outputsIn, countIn, kindIn, firstIn, secondIn, cellAt, tailNet, bitsOf, Encodes}
-use Rattle.format.proofs.Spelling.{field-append, bit-of, bit-in, same-bytes}
+use Rattle.reader.specs.Meaning.Fields.{bitAt, fieldAt}
+use Rattle.format.specs.Meaning.Format.{versionIn, inputsIn, latchesIn, outputsIn, countIn, kindIn, firstIn, secondIn, cellAt, tailNet, bitsOf, Encodes}
+use Rattle.reader.proofs.Spelling.{field-append, bit-of, bit-in, same-bytes}
 use Rattle.writer.specs.Working.Packing.{joined, headerWord, cellWord, wordBit}
 
 -- the bits of byte k of the words that two lists hold

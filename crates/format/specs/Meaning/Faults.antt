@@ -8,7 +8,8 @@ use mathlib.Core.List.{List}
 use lib.ListN.{length}
 use Rattle.netlist.specs.Meaning.Limits.{mostInputs, mostLatches, mostOutputs, mostCells}
 use Rattle.netlist.specs.Meaning.Loops.{OnLoop}
-use Rattle.format.specs.Meaning.Format.{bitAt, versionIn, inputsIn, latchesIn, outputsIn, countIn, netsIn, bitsIn, bytesIn, kindIn, firstIn, secondIn, tailIn, decoded}
+use Rattle.reader.specs.Meaning.Fields.{bitAt}
+use Rattle.format.specs.Meaning.Format.{versionIn, inputsIn, latchesIn, outputsIn, countIn, netsIn, bitsIn, bytesIn, kindIn, firstIn, secondIn, tailIn, decoded}
 
 -- "1 fewer than four bytes; 2 version not 1; 3 a header size over its limit; 4 image ends before its last field or pad bit; 5 a net
 -- number, an unread second net too, not below 2 + I + L + G; 6 unread second net not 0; 7 a pad bit set; 8 bytes left over; 9 a loop of cells"

@@ -1,6 +1,4 @@
 -- The netlist image: where its fields stand, which design bytes spell, and which bytes are the image of a design.
---   bitAt b i                          bit i of the bytes b, 0 past their end
---   fieldAt b at w                     the number that the w bits from place `at` on spell
 --   versionIn, inputsIn, latchesIn, outputsIn, countIn b   the fields of the header
 --   netsIn, bitsIn, bytesIn b          how many nets the header gives, bits of all fields, and bytes with the pad
 --   cellAt i                           where cell i stands; the nets behind the cells stand where a further cell would
@@ -11,14 +9,14 @@
 --   tailNet d t                        the nets behind the cells: those of the flip-flops, then those of the outputs
 --   bitsOf d, bytesOf d                bits and bytes of the image of d
 --   Encodes d b                        b is the image of d
-use Prim.Native.Nat.{ℕ, _+_, _-_, _*_, _/_, _%_, _<_, _≤_}
+use Prim.Native.Nat.{ℕ, _+_, _-_, _*_, _<_, _≤_}
 use mathlib.Core.Path.{_≡_}
 use mathlib.Core.Bool.{cond}
 use mathlib.Core.List.{List}
 use lib.Dec.{ltb}
 use lib.ListN.{length, getD}
-use Rattle.numbers.specs.Meaning.Bits.{bitOf, horner}
 use Rattle.memory.specs.Meaning.Lists.{listOf}
+use Rattle.reader.specs.Meaning.Fields.{bitAt, fieldAt}
 use Rattle.netlist.specs.declared.Gate.{Gate}
 use Rattle.netlist.specs.declared.Cell.{Cell}
 use Rattle.netlist.specs.declared.Design.{Design}
@@ -26,13 +24,6 @@ use Rattle.netlist.specs.Meaning.Limits.{mostLatches, mostOutputs, mostCells}
 use Rattle.format.specs.Meaning.Layout.{sizeBits, countBits, kindBits, netBits, inputsAt, latchesAt, outputsAt, countAt, headerBits, cellBits, bitsFor, bytesFor}
 use Rattle.netlist.specs.Meaning.Gates.{gateOf, kindOf, firstOf, secondOf, blankCell}
 use Rattle.netlist.specs.Meaning.Nets.{gateAt}
-
--- "Fields are packed, most significant bit first, without gaps"
-unfoldable pub bitAt : List ℕ → ℕ → ℕ
-bitAt b i = bitOf 8 (getD b (i / 8) 0) (i % 8)
-
-unfoldable pub fieldAt : List ℕ → ℕ → ℕ → ℕ
-fieldAt b at w = horner (λ j. bitAt b (at + j)) w
 
 -- "The header is version (4 bits, value 1), inputs I (4 bits, 0..6), flip-flops L (4 bits, 0..7), outputs O (4 bits, 0..8), cells G (9 bits, 0..256)"
 abbrev pub versionIn : List ℕ → ℕ

@@ -1,9 +1,13 @@
 -- `read`: the header's number, the lowest of the others, or the design.
+use mathlib.Core.Path.{refl}
 use Rattle.format.proofs.Refusals.{within-limits}
 use Rattle.image.proofs.Promises.{turned-away, turned-head}
 use borrow.Author.Needs.{needs}
 use Rattle.image.proofs.read.Statement.{statement}
 use Rattle.image.proofs.read.Tie as tie
+
+header-of-requires : tie.Need-header-of-requires
+header-of-requires c κs = search needs
 
 header-fault-requires : tie.Need-header-fault-requires
 header-fault-requires c κs = search needs
@@ -12,16 +16,16 @@ refusal-requires : tie.Need-refusal-requires
 refusal-requires c κs = search needs
 
 returns : tie.Need-returns
-returns c = turned-head _ _ (c .refusal .result) (c .before .if1 .taken) (c .before .before .header-fault .ensures) (c .refusal .ensures .0) (c .refusal .ensures .1)
+returns c = turned-head _ _ (c .refusal .result) (c .before .if1 .taken) (c .before .before .header-fault .ensures _ refl (c .before .before .before .header-of .ensures)) (c .refusal .ensures .0) (c .refusal .ensures .1)
 
 decode-requires : tie.Need-decode-requires
-decode-requires c κs = within-limits (c .before .header-fault .ensures .none (c .if1 .left))
+decode-requires c κs = (c .before .before .header-of .ensures, within-limits (c .before .header-fault .ensures _ refl (c .before .before .header-of .ensures) .none (c .if1 .left)))
 
 fault-of-requires : tie.Need-fault-of-requires
 fault-of-requires c κs = search needs
 
 field-fault-requires : tie.Need-field-fault-requires
-field-fault-requires c κs = (c .before .before .before .header-fault .ensures .none (c .before .before .if1 .left), rw (c .before .decode .ensures) at (c .fault-of .ensures))
+field-fault-requires c κs = (c .before .before .before .before .header-of .ensures, (c .before .before .before .header-fault .ensures _ refl (c .before .before .before .before .header-of .ensures) .none (c .before .before .if1 .left), rw (c .before .decode .ensures) at (c .fault-of .ensures)))
 
 refusal-requires-2 : tie.Need-refusal-requires-2
 refusal-requires-2 c κs = search needs
@@ -36,6 +40,7 @@ pub read-spec : {M : Type 1} → statement M
 read-spec =
     tie.close
     (tie.spec
+    header-of-requires
     header-fault-requires
     refusal-requires
     returns

@@ -1,29 +1,21 @@
 -- `unread_above`: no unread second net passed is above the number.
 use Prim.Native.Nat.{_-_, _≤_}
-use mathlib.Core.Path.{_≡_}
 use mathlib.Core.Logic.{⊎-elim}
 use native.Mathlib.Omega.{arith}
 use borrow.Author.Count.{below-more, below-none}
-use Rattle.format.specs.Meaning.Format.{countIn}
 use Rattle.format.specs.Working.Scanning.{UnreadBelow}
 use borrow.Author.Needs.{needs}
 use Rattle.format.proofs.faults.unread_above.Statement.{statement}
 use Rattle.format.proofs.faults.unread_above.Tie as tie
 
 abbrev Inv-loop : tie.InvT-loop
-Inv-loop image most count i₀ i = (i ≤ count) × (count ≡ countIn image) × UnreadBelow image most i
+Inv-loop image count most i₀ i = (i ≤ count) × UnreadBelow image most i
 
 abbrev μ-loop : tie.MeasureT-loop
-μ-loop image most count i₀ i = count - i
-
-count-requires : tie.Need-count-requires Inv-loop μ-loop
-count-requires c κs = search needs
-
-cast-count : tie.Need-cast-count Inv-loop μ-loop
-cast-count c = search needs
+μ-loop image count most i₀ i = count - i
 
 loop-holds : tie.Need-loop-holds Inv-loop μ-loop
-loop-holds c = (search needs, search needs, below-none _)
+loop-holds c = (search needs, below-none _)
 
 cell-requires : tie.Need-cell-requires Inv-loop μ-loop
 cell-requires c κs = search needs
@@ -31,7 +23,7 @@ cell-requires c κs = search needs
 returns : tie.Need-returns Inv-loop μ-loop
 returns c =
     let s = c .before .before .before .cell .ensures in
-    record { cell = c .before .before .before .before .before .loop .i; within = omega arith; one-net = omega (arith, s .kind, c .before .before .if1 .taken); above = omega (arith, s .second, c .if2 .taken) }
+    record { cell = c .before .before .before .before .before .loop .i; within = omega (arith, c .before .before .before .before .before .before .before .pre .0); one-net = omega (arith, s .kind, c .before .before .if1 .taken); above = omega (arith, s .second, c .if2 .taken) }
 
 add-i : tie.Need-add-i Inv-loop μ-loop
 add-i c = search needs
@@ -43,10 +35,10 @@ loop-again : tie.Need-loop-again Inv-loop μ-loop
 loop-again c =
     let v = c .before .before .before .loop .inv in
     let s = c .before .cell .ensures in
-    (search needs, v .1, below-more _ _ (v .2) (λ k. ⊎-elim (λ w. omega (arith, s .second, w .2 .left)) (λ r. absurd (⊎-elim (λ w. omega (arith, s .kind, w .0 .left)) (λ w. omega (arith, s .kind, w .0 .left)) r)) (c .if1 .came)))
+    (search needs, below-more _ _ (v .1) (λ k. ⊎-elim (λ w. omega (arith, s .second, w .2 .left)) (λ r. absurd (⊎-elim (λ w. omega (arith, s .kind, w .0 .left)) (λ w. omega (arith, s .kind, w .0 .left)) r)) (c .if1 .came)))
 
 returns-2 : tie.Need-returns-2 Inv-loop μ-loop
-returns-2 c = λ i h. c .before .loop .inv .2 i (omega arith)
+returns-2 c = λ i h. c .before .loop .inv .1 i (omega (arith, c .before .before .before .pre .0))
 
 pub unread-above-spec : {M : Type 1} → statement M
 unread-above-spec =
@@ -54,8 +46,6 @@ unread-above-spec =
     (tie.spec
     Inv-loop
     μ-loop
-    count-requires
-    cast-count
     loop-holds
     cell-requires
     returns

@@ -11,13 +11,13 @@ use Rattle.image.proofs.decode.take_nets.Statement.{statement}
 use Rattle.image.proofs.decode.take_nets.Tie as tie
 
 abbrev Inv-loop : tie.InvT-loop
-Inv-loop image t n nets₀ k₀ nets k = (k ≤ n) × Filled (λ j. tailIn image (t + j)) 0 (length nets₀) k nets
+Inv-loop image count t n nets₀ k₀ nets k = (k ≤ n) × Filled (λ j. tailIn image (t + j)) 0 (length nets₀) k nets
 
 abbrev μ-loop : tie.MeasureT-loop
-μ-loop image t n nets₀ k₀ nets k = n - k
+μ-loop image count t n nets₀ k₀ nets k = n - k
 
 loop-holds : tie.Need-loop-holds Inv-loop μ-loop
-loop-holds c = (search needs, filled-zero _ _ (c .before .before .pre .2))
+loop-holds c = (search needs, filled-zero _ _ (c .before .before .pre .1 .1 .1))
 
 add-tail : tie.Need-add-tail Inv-loop μ-loop
 add-tail c = search needs
@@ -29,7 +29,7 @@ mul-nets : tie.Need-mul-nets Inv-loop μ-loop
 mul-nets c = search needs
 
 slice-write-nets : tie.Need-slice-write-nets Inv-loop μ-loop
-slice-write-nets c = omega (arith, c .before .before .loop .inv .1 .size, c .before .before .before .before .before .pre .1)
+slice-write-nets c = omega (arith, c .before .before .loop .inv .1 .size, c .before .before .before .before .before .pre .1 .1 .0)
 
 add-k : tie.Need-add-k Inv-loop μ-loop
 add-k c = search needs
@@ -40,7 +40,7 @@ loop-less c = search needs
 loop-again : tie.Need-loop-again Inv-loop μ-loop
 loop-again c =
     let l = c .before .before .loop in
-    (search needs, filled-more _ 0 _ (l .k) (l .nets) (c .tail .result) (omega (arith, c .before .before .before .before .before .pre .1)) (c .tail .ensures) (l .inv .1))
+    (search needs, filled-more _ 0 _ (l .k) (l .nets) (c .tail .result) (omega (arith, c .before .before .before .before .before .pre .1 .1 .0)) (c .tail .ensures) (l .inv .1))
 
 same-length : tie.Need-same-length Inv-loop μ-loop
 same-length c = c .before .loop .inv .1 .size

@@ -10,7 +10,7 @@ use lib.ListN.{length, getD, List·getD-eq-default}
 use lib.Seq.{ext-getD}
 use Rattle.numbers.specs.Meaning.Bits.{bitOf, horner}
 use Rattle.numbers.proofs.Digits.{horner-cong, horner-digit, horner-bits, horner-lt, horner-append, zero-digits, horner-some}
-use Rattle.format.specs.Meaning.Format.{bitAt, fieldAt}
+use Rattle.reader.specs.Meaning.Fields.{bitAt, fieldAt}
 
 pub bit-lt : (b : List ℕ) (i : ℕ) → bitAt b i < 2
 unfolding bitAt

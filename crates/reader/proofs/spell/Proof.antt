@@ -4,11 +4,11 @@ use mathlib.Core.Path.{_≡_, refl}
 use native.Mathlib.Omega.{arith}
 use native.Mathlib.Numerals.{add-one}
 use Rattle.numbers.specs.Meaning.Bits.{horner}
-use Rattle.format.specs.Meaning.Format.{fieldAt}
-use Rattle.format.proofs.Spelling.{bit-lt, field-lt, field-room}
+use Rattle.reader.specs.Meaning.Fields.{fieldAt}
+use Rattle.reader.proofs.Spelling.{bit-lt, field-lt, field-room}
 use borrow.Author.Needs.{needs}
-use Rattle.format.proofs.bits.spell.Statement.{statement}
-use Rattle.format.proofs.bits.spell.Tie as tie
+use Rattle.reader.proofs.spell.Statement.{statement}
+use Rattle.reader.proofs.spell.Tie as tie
 
 abbrev Inv-loop : tie.InvT-loop
 Inv-loop image at width n₀ k₀ n k = (k ≤ width) × (n ≡ fieldAt image at k)

@@ -1,12 +1,12 @@
 -- `bit`: the byte's bit, or 0 past the end.
 use mathlib.Core.Path.{_≡_, sym}
-use Rattle.format.proofs.Spelling.{bit-past}
+use Rattle.reader.proofs.Spelling.{bit-past}
 use Prim.Native.Nat.{_-_, _%_, _+_}
 use native.Mathlib.Omega.{arith}
-use Rattle.format.specs.Meaning.Format.{bitAt}
+use Rattle.reader.specs.Meaning.Fields.{bitAt}
 use borrow.Author.Needs.{needs}
-use Rattle.format.proofs.bits.bit.Statement.{statement}
-use Rattle.format.proofs.bits.bit.Tie as tie
+use Rattle.reader.proofs.bit.Statement.{statement}
+use Rattle.reader.proofs.bit.Tie as tie
 
 shared-slice-read-result : tie.Need-shared-slice-read-result
 shared-slice-read-result c = search needs

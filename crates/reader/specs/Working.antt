@@ -1,0 +1,2 @@
+-- Definitions that only inner contracts and proofs cite.
+pub mod Taking
