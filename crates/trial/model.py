@@ -1,0 +1,385 @@
+#!/usr/bin/env python3
+"""A second answer to every question of `trial`, to hold the proved calls against.
+
+  python3 crates/trial/model.py    writes what `trial` has to print (stdout) of what it is asked (stdin)
+
+It was written from the papers, not from the proved code, and goes another way where there is one: an image is a string of 0 and 1, the
+value of a net is found by recursion, a set of pairs is a set, and what refuses a call is a list of numbers of which the lowest counts.
+"""
+import re
+from pathlib import Path
+
+HERE = Path(__file__).resolve().parent
+CELLS = 256
+TOO_LONG = {"image": 692, "memory": 19 + 3 * CELLS, "numbers": 13, "bytes": 40000}
+
+
+class NoQuestion(Exception):
+    """A line that asks nothing; the argument says why."""
+
+
+SPELLED_WRONG = "a word is missing, spelled wrong, too long or one too many"
+
+
+# The notation.
+
+def entries(word, most, kind):
+    """The entries of a list: hexadecimal bytes behind an x, or decimal numbers."""
+    numbers, hexadecimal = [], word.startswith("x")
+    if word == "x":
+        return []
+    for item in re.split("[,/]", word[hexadecimal:]):
+        spelled = re.fullmatch(r"((?:[0-9A-F]{2})+)(?:\*(\d+))?" if hexadecimal else r"(\d+)(?:\*(\d+))?", item)
+        if not spelled:
+            raise NoQuestion(SPELLED_WRONG)
+        found = [int(pair, 16) for pair in re.findall("..", spelled[1])] if hexadecimal else [int(spelled[1])]
+        numbers += found[:-1] + found[-1:] * int(spelled[2] or 1)
+    if any(number > most for number in numbers) or len(numbers) > TOO_LONG[kind]:
+        raise NoQuestion(SPELLED_WRONG)
+    return numbers
+
+
+def short(numbers, spell=str):
+    """A slice with runs of one value in short; of more than 64 runs the first 64, and a sum of all entries."""
+    runs = []
+    for number in numbers:
+        if runs and runs[-1][0] == number:
+            runs[-1][1] += 1
+        else:
+            runs.append([number, 1])
+    text = ",".join(spell(value) + (f"*{times}" if times > 1 else "") for value, times in runs[:64]) or "0*0"
+    if len(runs) > 64:
+        total = 0
+        for number in numbers:
+            total = (total * 31 + number) % 1000000007
+        text += f",.. sum {total}"
+    return " | " + text
+
+
+# Designs and images.
+
+class Design:
+    """Sizes, cells as kind and two nets, the nets of the flip-flops and of the outputs."""
+
+    def __init__(self, sizes, cells, data, shown):
+        self.sizes, self.cells, self.data, self.shown = sizes, cells, data, shown
+        self.inputs, self.latches, self.outputs, self.count = sizes
+
+    @staticmethod
+    def in_memory(numbers):
+        numbers = numbers + [0] * (TOO_LONG["memory"] - len(numbers))
+        sizes = [min(number, 255) for number in numbers[:3]] + [numbers[3]]
+        cells = [tuple(numbers[k:k + 3]) for k in range(19, len(numbers), 3)]
+        cells = [(min(kind, 7), first, second if kind > 1 else 0) for kind, first, second in cells]
+        return Design(sizes, cells, numbers[4:11], numbers[11:19])
+
+    def read(self):
+        """The nets that are read: by the cells in use, the flip-flops and the outputs."""
+        cells = [net for kind, first, second in self.cells[:self.count] for net in ([first, second] if kind > 1 else [first])]
+        return cells + self.data[:self.latches] + self.shown[:self.outputs]
+
+    def faults(self):
+        if self.inputs > 6 or self.latches > 7 or self.outputs > 8 or self.count > CELLS:
+            return [3]
+        first_cell = 2 + self.inputs + self.latches
+        if any(net >= first_cell + self.count for net in self.read()):
+            return [5]
+        return [9] if any(self.reaches(cell, cell, set()) for cell in range(self.count)) else []
+
+    def reaches(self, cell, sought, seen):
+        kind, first, second = self.cells[cell]
+        for net in [first, second] if kind > 1 else [first]:
+            other = net - 2 - self.inputs - self.latches
+            if other == sought or (other >= 0 and other not in seen and (seen.add(other) or self.reaches(other, sought, seen))):
+                return True
+        return False
+
+    def step(self, state, vector):
+        """The next state and the output."""
+        known = {0: 0, 1: 1}
+        for k in range(self.inputs):
+            known[2 + k] = vector >> (self.inputs - 1 - k) & 1
+        for k in range(self.latches):
+            known[2 + self.inputs + k] = state >> (self.latches - 1 - k) & 1
+
+        def value(net):
+            if net not in known:
+                kind, first, second = self.cells[net - 2 - self.inputs - self.latches]
+                a = value(first)
+                b = value(second) if kind > 1 else 0
+                known[net] = [a, 1 - a, a & b, a | b, a ^ b, 1 - (a & b), 1 - (a | b), 1 - (a ^ b)][kind]
+            return known[net]
+
+        return tuple(int("0" + "".join(str(value(net)) for net in nets), 2)
+                     for nets in (self.data[:self.latches], self.shown[:self.outputs]))
+
+    def table(self):
+        steps = [self.step(s, v) for s in range(2 ** self.latches) for v in range(2 ** self.inputs)]
+        return [s for s, _ in steps], [out for _, out in steps]
+
+    def image(self):
+        bits = "0001" + "".join(f"{size:04b}" for size in self.sizes[:3]) + f"{self.count:09b}"
+        bits += "".join(f"{kind:03b}{first:09b}{second:09b}" for kind, first, second in self.cells[:self.count])
+        bits += "".join(f"{net:09b}" for net in self.data[:self.latches] + self.shown[:self.outputs])
+        bits += "0" * (-len(bits) % 8)
+        return [int(bits[k:k + 8], 2) for k in range(0, len(bits), 8)]
+
+
+EMPTY = Design.in_memory([])
+
+
+def header(data):
+    """What refuses the header of an image, its sizes and how many bytes it takes."""
+    if len(data) < 4:
+        return [1], None, 0
+    bits = "".join(f"{byte:08b}" for byte in data[:4])
+    version, *sizes = [int(bits[4 * k:4 * k + 4], 2) for k in range(4)] + [int(bits[16:25], 2)]
+    if version != 1:
+        return [2], None, 0
+    if sizes[0] > 6 or sizes[1] > 7 or sizes[2] > 8 or sizes[3] > CELLS:
+        return [3], None, 0
+    size = (25 + 21 * sizes[3] + 9 * (sizes[1] + sizes[2]) + 7) // 8
+    return ([4] if len(data) < size else []), sizes, size
+
+
+def reading(data):
+    """What refuses an image, and the design that it spells."""
+    faults, sizes, size = header(data)
+    if faults:
+        return faults, EMPTY
+    bits = "".join(f"{byte:08b}" for byte in data[:size])
+    ends = [25 + 21 * k for k in range(sizes[3] + 1)]
+    cells = [(int(bits[e:e + 3], 2), int(bits[e + 3:e + 12], 2), int(bits[e + 12:e + 21], 2)) for e in ends[:-1]]
+    tails = [int(bits[ends[-1] + 9 * k:ends[-1] + 9 * k + 9], 2) for k in range(sizes[1] + sizes[2])]
+    nets = 2 + sizes[0] + sizes[1] + sizes[3]
+    if any(net >= nets for net in tails + [net for cell in cells for net in cell[1:]]):
+        faults.append(5)
+    if any(kind < 2 and second for kind, _, second in cells):
+        faults.append(6)
+    if "1" in bits[ends[-1] + 9 * len(tails):]:
+        faults.append(7)
+    if len(data) > size:
+        faults.append(8)
+    design = Design(sizes, cells, tails[:sizes[1]], tails[sizes[1]:])
+    if not faults:
+        faults = design.faults()
+    return (faults, EMPTY) if faults else ([], design)
+
+
+# Pairs of states of two machines.
+
+class Pairs:
+    """Two tables each, with the sizes: which pairs are alike and which can be aligned, and the lists that are picked."""
+
+    def __init__(self, tables, old, new, vectors):
+        self.next0, self.out0, self.next1, self.out1 = tables
+        self.old, self.new, self.vectors = old, new, vectors
+        self.all = [(s0, s1) for s0 in range(old) for s1 in range(new)]
+        alike, self.round = {pair for pair in self.all if not self.telling(pair)}, 1
+        while True:
+            fewer = {pair for pair in alike if all(self.after(pair, v) in alike for v in range(vectors))}
+            if fewer == alike:
+                break
+            alike, self.round = fewer, self.round + 1
+        self.alike = alike
+        self.to_tell = self.distances({pair: 1 for pair in self.all if self.telling(pair)})
+        self.to_align = self.distances({pair: 0 for pair in alike})
+
+    def after(self, pair, v):
+        return self.next0[pair[0] * self.vectors + v], self.next1[pair[1] * self.vectors + v]
+
+    def telling(self, pair):
+        """The vectors that show different outputs."""
+        at0, at1 = pair[0] * self.vectors, pair[1] * self.vectors
+        return [v for v in range(self.vectors) if self.out0[at0 + v] != self.out1[at1 + v]]
+
+    def distances(self, found):
+        steps = max(found.values(), default=0)
+        while True:
+            steps += 1
+            more = [pair for pair in self.all if pair not in found
+                    and any(found.get(self.after(pair, v), steps) == steps - 1 for v in range(self.vectors))]
+            if not more:
+                return found
+            found.update((pair, steps) for pair in more)
+
+    def picked(self, pair, distance, prior):
+        """Of the shortest lists the one whose steps each keep the vector before, or else take the lowest."""
+        steps = []
+        while distance[pair] and (distance is self.to_align or distance[pair] > 1):
+            fit = [v for v in range(self.vectors) if distance.get(self.after(pair, v), -1) == distance[pair] - 1]
+            prior = prior if prior in fit else fit[0]
+            steps.append(prior)
+            pair = self.after(pair, prior)
+        if distance is self.to_tell:
+            fit = self.telling(pair)
+            steps.append(prior if prior in fit else fit[0])
+        return steps
+
+    def verdict(self):
+        """What is said, and the list."""
+        for s0, s1 in self.all:
+            if (s0, s1) not in self.to_align:
+                trace = self.picked((s0, s1), self.to_tell, None)
+                return f"apart {s0} {s1} {len(trace)}", trace
+        olds, news, steps = set(range(self.old)), set(range(self.new)), []
+        while True:
+            left = [(s0, s1) for s0 in sorted(olds) for s1 in sorted(news) if (s0, s1) not in self.alike]
+            if not left:
+                return f"same {len(steps)}", steps
+            more = self.picked(left[0], self.to_align, steps[-1] if steps else None)
+            for v in more:
+                olds, news = {self.next0[s * self.vectors + v] for s in olds}, {self.next1[s * self.vectors + v] for s in news}
+            steps += more
+
+
+# The calls.
+
+def filled(found, length):
+    return found + [0] * (length - len(found))
+
+
+def tables_faults(lengths, sizes, mapping):
+    """11, 12 and 13 are looked for by the caller in that order."""
+    s0, s1, v = sizes
+    if not (1 <= s0 <= 128 and 1 <= s1 <= 128 and 1 <= v <= 64):
+        return [11]
+    needed = [s0 * v, s0 * v, s1 * v, s1 * v, s0 * s1, s0 * s1, s0 * s1 if mapping else 0]
+    return [12] if any(length < need for length, need in zip(lengths, needed)) else []
+
+
+def on_tables(call, numbers, data):
+    lengths, sizes, pair = numbers[1:8], numbers[8:11], tuple(numbers[11:13])
+    if sum(lengths[:4]) != len(data):
+        raise NoQuestion("the tables have other lengths")
+    ends = [sum(lengths[:k]) for k in range(5)]
+    tables = [data[ends[k]:ends[k + 1]] for k in range(4)]
+    said, left = answer_on_tables(call, lengths, sizes, pair, tables)
+    return said + short([0] * lengths[4]) + short([0] * lengths[5]) + short(filled(left, lengths[6]))
+
+
+def answer_on_tables(call, lengths, sizes, pair, tables):
+    nothing = " alike 0 alignable 0" if call == "judge" else ""
+    faults = tables_faults(lengths, sizes, call.startswith("map"))
+    if not faults and any(s >= sizes[side] for side in (0, 1) for s in tables[2 * side][:sizes[side] * sizes[2]]):
+        faults = [13]
+    if not faults and call.endswith("_of") and (pair[0] >= sizes[0] or pair[1] >= sizes[1]):
+        faults = [14]
+    if faults:
+        return f"refused {min(faults)}{nothing}", []
+    pairs = Pairs(tables, *sizes)
+    if call == "map_alike":
+        return f"marked {len(pairs.alike)} round {pairs.round}", [int(p in pairs.alike) for p in pairs.all]
+    if call == "map_alignable":
+        return f"marked {len(pairs.to_align)}", [int(p in pairs.to_align) for p in pairs.all]
+    if call == "judge":
+        said, steps = pairs.verdict()
+    else:
+        distance = pairs.to_tell if call == "trace_of" else pairs.to_align
+        if pair not in distance:
+            return "refused 15", []
+        steps = pairs.picked(pair, distance, None)
+        said = f"steps {len(steps)}"
+    if len(steps) > lengths[6]:
+        return f"refused 16{nothing}", []
+    counts = f" alike {len(pairs.alike)} alignable {len(pairs.to_align)}" if call == "judge" else ""
+    return said + counts, steps
+
+
+def on_designs(call, old, new, numbers):
+    """tabulate, tabulate_both and compare."""
+    designs = [old] if call == "tabulate" else [old, new]
+    lengths = numbers[1:{"tabulate": 3, "tabulate_both": 5, "compare": 8}[call]]
+    faults = sorted(number for design in designs for number in design.faults())
+    if not faults and len(designs) > 1 and (old.inputs, old.outputs) != (new.inputs, new.outputs):
+        faults = [10]
+    tables = [] if faults else [table for design in designs for table in design.table()]
+    if not faults and any(length < len(table) for length, table in zip(lengths, tables)):
+        faults = [12]
+    states, steps = [2 ** min(design.latches, 9) for design in designs], []
+    said = f"states {states[0]} vectors {2 ** min(old.inputs, 9)}"
+    if call != "tabulate":
+        said = f"states {states[0]} and {states[-1]} vectors {2 ** min(old.inputs, 9)}"
+    if faults:
+        said = f"refused {faults[0]}" + (" alike 0 alignable 0" if call == "compare" else "")
+    elif call == "compare":
+        said, steps = answer_on_tables("judge", [len(table) for table in tables] + lengths[4:], states + [2 ** old.inputs], (0, 0), tables)
+    if said.startswith("refused"):
+        tables = [[]] * 4
+    slices = [filled(table, length) for table, length in zip(tables, lengths)]
+    if call == "compare":
+        slices += [[0] * lengths[4], [0] * lengths[5], filled(steps, lengths[6])]
+    return said + "".join(short(one) for one in slices)
+
+
+def on_one(call, design, numbers):
+    faults = design.faults()
+    if call == "fault_of":
+        return f"fault {faults[0] if faults else 0}"
+    if call == "clock":
+        state, vector = numbers[:2]
+        if not faults and (state >= 2 ** design.latches or vector >= 2 ** design.inputs):
+            faults = [14]
+        return f"refused {faults[0]}" if faults else "next %d output %d" % design.step(state, vector)
+    image = [] if faults else design.image()
+    if not faults and len(image) > numbers[1]:
+        faults, image = [12], []
+    said = f"refused {faults[0]}" if faults else f"bytes {len(image)}"
+    return said + short(filled(image, numbers[1]), lambda byte: f"{byte:02x}")
+
+
+DESIGNS = {"compare": 2, "tabulate_both": 2, "tabulate": 1, "write": 1, "clock": 1, "fault_of": 1}
+OTHERS = ["length_of", "read", "limits", "map_alike", "map_alignable", "trace_of", "list_of", "judge"]
+
+
+def design_of(words):
+    if not words:
+        raise NoQuestion(SPELLED_WRONG)
+    word = words.pop(0)
+    if not word.startswith("x"):
+        return Design.in_memory(entries(word, 65535, "memory"))
+    faults, design = reading(entries(word, 255, "image"))
+    if faults:
+        raise NoQuestion(SPELLED_WRONG)
+    return design
+
+
+def answer(line):
+    call, *words = line.split(" ")
+    if call not in DESIGNS and call not in OTHERS and not words:
+        raise NoQuestion("no such call")
+    designs = [design_of(words) for _ in range(DESIGNS.get(call, 0))]
+    numbers = entries(words.pop(0), 65535, "numbers") if words and not words[0].startswith("x") else []
+    numbers += [0] * (TOO_LONG["numbers"] - len(numbers))
+    data = entries(words.pop(0), 255, "bytes") if words else []
+    if words:
+        raise NoQuestion(SPELLED_WRONG)
+    if call not in DESIGNS and call not in OTHERS:
+        raise NoQuestion("no such call")
+    if call == "limits":
+        return "inputs 6 flip-flops 7 outputs 8 cells 256 bytes 692"
+    if call == "length_of":
+        faults, _, size = header(data)
+        return f"refused {faults[0]}" if faults else f"bytes {size}"
+    if call == "read":
+        faults, design = reading(data)
+        return (f"refused {min(faults)}" if faults else "accepted") + ", sizes " + " ".join(map(str, design.sizes))
+    if call in ("write", "clock", "fault_of"):
+        return on_one(call, designs[0], numbers)
+    if call in DESIGNS:
+        return on_designs(call, designs[0], designs[-1], numbers)
+    return on_tables(call, numbers, data)
+
+
+def answered(line):
+    if not line or line[0] in " #":
+        return line
+    try:
+        return answer(line)
+    except NoQuestion as reason:
+        return f"NO QUESTION: {reason}"
+
+
+if __name__ == "__main__":
+    lines = (HERE / "stdin").read_text().splitlines()
+    (HERE / "stdout").write_text("".join(answered(line) + "\n" for line in lines))

@@ -1,0 +1,293 @@
+// Puts questions to the public calls, and prints what each answers and what the slices that were lent to it hold then.
+mod calls;
+mod designs;
+mod show;
+mod slices;
+mod words;
+
+ghost use Prim.Native.Nat.{_≤_, _<_};
+ghost use lib.ListN.{length};
+use machine::Pair;
+use machine::Sizes;
+use netlist::Design;
+use netlist::Image;
+
+// The most bytes of all lines, entries of a slice that is written, bytes of a list that is read, and numbers of a question.
+const LINES: usize = 262144;
+
+const SLICE: usize = 65536;
+
+const BYTES: usize = 40000;
+
+const NUMBERS: usize = 13;
+
+fn main() {
+    let mut all = [0u8; LINES];
+    let n = io::read_full(0, &mut all);
+    ask_all(&all[..n]);
+}
+
+// Goes through the lines.
+fn ask_all(all: &[u8]) {
+    let mut at = 0;
+    while at < all.len() {
+        let end = find(all, at, b'\n');
+        ask(&all[at..end]);
+        io::write_all(1, b"\n");
+        at = end + 1;
+    }
+}
+
+// Where the first such byte stands at or behind a place, or else the end.
+fn find(line: &[u8], from: usize, byte: u8) -> usize
+    requires { ⌜ from ≤ length (now line) ⌝ }
+    ensures { λ r. ⌜ (from ≤ r) × (r ≤ length (now (line .entry))) ⌝ }
+{
+    let mut i = from;
+    while i < line.len() {
+        if line[i] == byte {
+            return i;
+        }
+        i += 1;
+    }
+    i
+}
+
+// Repeats a heading, or answers a question.
+fn ask(line: &[u8]) {
+    match words::byte_at(line, 0) {
+        0 | b' ' | b'#' => show::word(line),
+        _ => ask_call(line),
+    }
+}
+
+// Reads the words of a question.
+fn ask_call(line: &[u8]) {
+    let end = find(line, 0, b' ');
+    let call = calls::call_of(
+        b" compare tabulate_both tabulate write clock fault_of length_of read limits map_alike map_alignable trace_of list_of judge ",
+        slices::cut(line, 0, end),
+    );
+    let old = designs::drawn_at(line, end, call <= calls::FAULT_OF);
+    let new = designs::drawn_at(line, old.next, call <= calls::TABULATE_BOTH);
+    let mut numbers = [0u16; NUMBERS];
+    let f = words::numbers(line, new.next, &mut numbers);
+    let mut bytes = [0u8; BYTES];
+    let b = words::bytes(line, f.next, &mut bytes);
+    if b.next != line.len() {
+        show::word(b"NO QUESTION: a word is missing, spelled wrong, too long or one too many");
+        return;
+    }
+    let old = old.design;
+    let new = new.design;
+    answer(call, old, new, numbers, slices::cut(&bytes, 0, b.len));
+}
+
+// Puts a question.
+fn answer(call: usize, old: Design, new: Design, n: [u16; NUMBERS], bytes: &[u8]) {
+    match call {
+        calls::COMPARE => ask_compare(old, new, n),
+        calls::TABULATE_BOTH => ask_tabulate_both(old, new, n),
+        calls::TABULATE => ask_tabulate(old, n),
+        calls::WRITE => ask_write(old, n),
+        calls::CLOCK => ask_clock(old, n),
+        calls::FAULT_OF => show::item(b"fault ", netlist::fault_of(old) as usize),
+        calls::LENGTH_OF => show::measured(image::length_of(bytes)),
+        calls::READ => show::reading(image::read(bytes)),
+        calls::LIMITS => show::limits(Image::limits()),
+        calls::MAP_ALIKE..=calls::JUDGE => ask_tables(call, n, bytes),
+        _ => show::word(b"NO QUESTION: no such call"),
+    }
+}
+
+// The lengths of the slices of a question, in the order of the call's parameters.
+struct Lengths {
+    a: usize,
+    b: usize,
+    c: usize,
+    d: usize,
+    e: usize,
+    f: usize,
+    g: usize,
+}
+
+fn lengths_of(n: [u16; NUMBERS]) -> Lengths {
+    Lengths {
+        a: wide(n[1]),
+        b: wide(n[2]),
+        c: wide(n[3]),
+        d: wide(n[4]),
+        e: wide(n[5]),
+        f: wide(n[6]),
+        g: wide(n[7]),
+    }
+}
+
+fn wide(n: u16) -> usize
+    ensures { λ r. ⌜ r ≤ 65535 ⌝ }
+{
+    n as usize
+}
+
+fn ask_compare(old: Design, new: Design, n: [u16; NUMBERS]) {
+    let held = designs::low(n[0]);
+    let mut next0 = [held; SLICE];
+    let mut out0 = [held; SLICE];
+    let mut next1 = [held; SLICE];
+    let mut out1 = [held; SLICE];
+    let mut depth = [n[0]; SLICE];
+    let mut reach = [n[0]; SLICE];
+    let mut list = [held; SLICE];
+    let lengths = lengths_of(n);
+    let next0 = slices::bytes(&mut next0, lengths.a);
+    let out0 = slices::bytes(&mut out0, lengths.b);
+    let next1 = slices::bytes(&mut next1, lengths.c);
+    let out1 = slices::bytes(&mut out1, lengths.d);
+    let depth = slices::numbers(&mut depth, lengths.e);
+    let reach = slices::numbers(&mut reach, lengths.f);
+    let list = slices::bytes(&mut list, lengths.g);
+    let judged = compare::compare_counting(old, new, next0, out0, next1, out1, depth, reach, list);
+    show::judged(judged);
+    show::bytes(next0, false);
+    show::bytes(out0, false);
+    show::bytes(next1, false);
+    show::bytes(out1, false);
+    show::numbers(depth);
+    show::numbers(reach);
+    show::bytes(list, false);
+}
+
+fn ask_tabulate_both(old: Design, new: Design, n: [u16; NUMBERS]) {
+    let held = designs::low(n[0]);
+    let mut next0 = [held; SLICE];
+    let mut out0 = [held; SLICE];
+    let mut next1 = [held; SLICE];
+    let mut out1 = [held; SLICE];
+    let lengths = lengths_of(n);
+    let next0 = slices::bytes(&mut next0, lengths.a);
+    let out0 = slices::bytes(&mut out0, lengths.b);
+    let next1 = slices::bytes(&mut next1, lengths.c);
+    let out1 = slices::bytes(&mut out1, lengths.d);
+    let tabulated = simulator::tabulate_both(old, new, next0, out0, next1, out1);
+    show::tabulated_both(tabulated);
+    show::bytes(next0, false);
+    show::bytes(out0, false);
+    show::bytes(next1, false);
+    show::bytes(out1, false);
+}
+
+fn ask_tabulate(design: Design, n: [u16; NUMBERS]) {
+    let held = designs::low(n[0]);
+    let mut next = [held; SLICE];
+    let mut out = [held; SLICE];
+    let next = slices::bytes(&mut next, wide(n[1]));
+    let out = slices::bytes(&mut out, wide(n[2]));
+    let tabulated = simulator::tabulate(design, next, out);
+    show::tabulated(tabulated);
+    show::bytes(next, false);
+    show::bytes(out, false);
+}
+
+fn ask_write(design: Design, n: [u16; NUMBERS]) {
+    let mut image = [designs::low(n[0]); SLICE];
+    let image = slices::bytes(&mut image, wide(n[1]));
+    let written = writer::write(design, image);
+    show::written(written);
+    show::bytes(image, true);
+}
+
+fn ask_clock(design: Design, n: [u16; NUMBERS]) {
+    let clocked = simulator::clock(design, wide(n[0]), wide(n[1]));
+    show::clocked(clocked);
+}
+
+// Cuts the four tables out of a list, and takes the sizes and the pair.
+fn ask_tables(call: usize, n: [u16; NUMBERS], bytes: &[u8]) {
+    let a = wide(n[1]);
+    let b = a + wide(n[2]);
+    let c = b + wide(n[3]);
+    let d = c + wide(n[4]);
+    if bytes.len() != d {
+        show::word(b"NO QUESTION: the tables have other lengths");
+        return;
+    }
+    lend(
+        call,
+        n,
+        slices::cut(bytes, 0, a),
+        slices::cut(bytes, a, b),
+        slices::cut(bytes, b, c),
+        slices::cut(bytes, c, d),
+    );
+}
+
+// Lends scratch and a mark or list slice beside tables.
+fn lend(call: usize, n: [u16; NUMBERS], next0: &[u8], out0: &[u8], next1: &[u8], out1: &[u8]) {
+    let mut depth = [n[0]; SLICE];
+    let mut reach = [n[0]; SLICE];
+    let mut list = [designs::low(n[0]); SLICE];
+    let depth = slices::numbers(&mut depth, wide(n[5]));
+    let reach = slices::numbers(&mut reach, wide(n[6]));
+    let list = slices::bytes(&mut list, wide(n[7]));
+    let sizes = Sizes {
+        old: wide(n[8]),
+        new: wide(n[9]),
+        vectors: wide(n[10]),
+    };
+    let pair = Pair {
+        old: wide(n[11]),
+        new: wide(n[12]),
+    };
+    answer_tables(
+        call,
+        next0,
+        out0,
+        next1,
+        out1,
+        sizes,
+        pair,
+        depth,
+        reach,
+        list,
+    );
+    show::numbers(depth);
+    show::numbers(reach);
+    show::bytes(list, false);
+}
+
+// Puts a question on tables.
+fn answer_tables(
+    call: usize,
+    next0: &[u8],
+    out0: &[u8],
+    next1: &[u8],
+    out1: &[u8],
+    sizes: Sizes,
+    pair: Pair,
+    depth: &mut [u16],
+    reach: &mut [u16],
+    list: &mut [u8],
+) {
+    match call {
+        calls::MAP_ALIKE => {
+            let r = engine::map_alike(next0, out0, next1, out1, sizes, depth, reach, list);
+            show::alike(r);
+        }
+        calls::MAP_ALIGNABLE => {
+            let r = engine::map_alignable(next0, out0, next1, out1, sizes, depth, reach, list);
+            show::alignable(r);
+        }
+        calls::TRACE_OF => {
+            let r = engine::trace_of(next0, out0, next1, out1, sizes, pair, depth, reach, list);
+            show::found(r);
+        }
+        calls::LIST_OF => {
+            let r = engine::list_of(next0, out0, next1, out1, sizes, pair, depth, reach, list);
+            show::found(r);
+        }
+        _ => {
+            let r = verdict::judge_counting(next0, out0, next1, out1, sizes, depth, reach, list);
+            show::judged(r);
+        }
+    }
+}
