@@ -1,0 +1,102 @@
+-- `main`: a turn at a time.
+use Prim.Native.Nat.{_-_}
+use borrow.Author.Needs.{needs}
+use Rattle.brute_designs.proofs.main.Statement.{statement}
+use Rattle.brute_designs.proofs.main.Tie as tie
+
+abbrev Inv-loop : tie.InvT-loop
+Inv-loop tally₀ random₀ round₀ tally random round = Unit {0}
+
+abbrev μ-loop : tie.MeasureT-loop
+μ-loop tally₀ random₀ round₀ tally random round = 557 - round
+
+loop-holds : tie.Need-loop-holds Inv-loop μ-loop
+loop-holds c = search needs
+
+pair-requires : tie.Need-pair-requires Inv-loop μ-loop
+pair-requires c κs = search needs
+
+pair-requires-2 : tie.Need-pair-requires-2 Inv-loop μ-loop
+pair-requires-2 c κs = search needs
+
+drawn-image-requires : tie.Need-drawn-image-requires Inv-loop μ-loop
+drawn-image-requires c κs = search needs
+
+add-round : tie.Need-add-round Inv-loop μ-loop
+add-round c = search needs
+
+loop-less : tie.Need-loop-less Inv-loop μ-loop
+loop-less c = search needs
+
+loop-again : tie.Need-loop-again Inv-loop μ-loop
+loop-again c = search needs
+
+chain-requires : tie.Need-chain-requires Inv-loop μ-loop
+chain-requires c κs = search needs
+
+design-requires : tie.Need-design-requires Inv-loop μ-loop
+design-requires c κs = search needs
+
+chain-requires-2 : tie.Need-chain-requires-2 Inv-loop μ-loop
+chain-requires-2 c κs = search needs
+
+design-requires-2 : tie.Need-design-requires-2 Inv-loop μ-loop
+design-requires-2 c κs = search needs
+
+chain-requires-3 : tie.Need-chain-requires-3 Inv-loop μ-loop
+chain-requires-3 c κs = search needs
+
+design-requires-3 : tie.Need-design-requires-3 Inv-loop μ-loop
+design-requires-3 c κs = search needs
+
+chain-requires-4 : tie.Need-chain-requires-4 Inv-loop μ-loop
+chain-requires-4 c κs = search needs
+
+design-requires-4 : tie.Need-design-requires-4 Inv-loop μ-loop
+design-requires-4 c κs = search needs
+
+chain-requires-5 : tie.Need-chain-requires-5 Inv-loop μ-loop
+chain-requires-5 c κs = search needs
+
+design-requires-5 : tie.Need-design-requires-5 Inv-loop μ-loop
+design-requires-5 c κs = search needs
+
+chain-requires-6 : tie.Need-chain-requires-6 Inv-loop μ-loop
+chain-requires-6 c κs = search needs
+
+design-requires-6 : tie.Need-design-requires-6 Inv-loop μ-loop
+design-requires-6 c κs = search needs
+
+counts-requires : tie.Need-counts-requires Inv-loop μ-loop
+counts-requires c κs = search needs
+
+returns : tie.Need-returns Inv-loop μ-loop
+returns c = search needs
+
+pub main-spec : {M : Type 1} → statement M
+main-spec =
+    tie.close
+    (tie.spec
+    Inv-loop
+    μ-loop
+    loop-holds
+    pair-requires
+    pair-requires-2
+    drawn-image-requires
+    add-round
+    loop-less
+    loop-again
+    chain-requires
+    design-requires
+    chain-requires-2
+    design-requires-2
+    chain-requires-3
+    design-requires-3
+    chain-requires-4
+    design-requires-4
+    chain-requires-5
+    design-requires-5
+    chain-requires-6
+    design-requires-6
+    counts-requires
+    returns)
