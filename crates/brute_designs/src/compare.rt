@@ -13,9 +13,6 @@ use simulator::Tabulated;
 use simulator::TabulatedBoth;
 use writer::Written;
 
-// What is answered where n is over the room, which is a fault of this program.
-const NO_SLICE: usize = 20000;
-
 // What is compared.
 pub const FAULT: usize = 0;
 
@@ -38,10 +35,17 @@ pub const CUT: usize = 8;
 // How often each number from 0 to 15 was expected for each of these, and then the disagreements.
 pub const DISAGREEMENTS: usize = 144;
 
-pub type Tally = [usize; 145];
+pub const PLACES: usize = 145;
 
-// The number of a refusal or 0, up to three numbers that are answered, and the place at which what was written first differs from what
-// is expected.
+pub type Tally = [usize; PLACES];
+
+// A number where n is over the room for images, which is a fault of this program.
+const NO_ROOM: usize = 20000;
+
+// The number of a refusal or 0; three numbers more, 0 where there are fewer; and the first place at which the tables, the bytes or the
+// design are not what is expected, or their length. The three are states and vectors; next state, output and entry of a clock; states of
+// both and vectors; bytes of the image and of the slice; bytes that the header gives, or 10000 and a number, and the first place at which
+// the image written again differs.
 pub struct Answer(pub usize, pub usize, pub usize, pub usize, pub usize);
 
 // Counts a comparison. A difference is printed with its design, if it is one of the first few; then the result is true.
@@ -137,7 +141,7 @@ fn stepped(list: &Plain, entry: usize) -> Answer {
     Answer(0, next, out, entry, 0)
 }
 
-// Compares every clock, and the refusal of a state and of a vector one too high; one clock of a design with a number.
+// Compares every clock, and the refusal of a state and of a vector one too high; of a design with a number only these two.
 fn clocks(list: &Plain, number: usize, tally: &mut Tally) {
     let entries = entries(list, number);
     let inputs = plain::at(list, plain::INPUTS) % 8;
@@ -156,7 +160,7 @@ fn clocks(list: &Plain, number: usize, tally: &mut Tally) {
 // Compares one clock.
 fn clock(list: &Plain, state: usize, vector: usize, expected: Answer, tally: &mut Tally) {
     let found = match simulator::clock(plain::design_of(list), state, vector) {
-        Clocked::Step { next, out } => { Answer(0, next as usize, out as usize, expected.3, 0) }
+        Clocked::Step { next, out } => Answer(0, next as usize, out as usize, expected.3, 0),
         Clocked::Refused(n) => Answer(n as usize, 0, 0, expected.3, 0),
     };
     judge(CLOCK, list, found, expected, tally);
@@ -276,7 +280,7 @@ pub fn reads(
 // accepted design first differ from these.
 fn read(bits: &Bits, n: usize, list: &Plain) -> Answer {
     if BYTES < n {
-        return Answer(NO_SLICE, 0, 0, 0, 0);
+        return Answer(NO_ROOM, 0, 0, 0, 0);
     }
     let mut bytes = [0u8; BYTES];
     images::pack(bits, n, &mut bytes);

@@ -17,7 +17,7 @@ use crate::plain::Plain;
 use std::num::wrapping_sub_usize;
 
 fn main() {
-    let mut tally = [0usize; 145];
+    let mut tally = [0usize; compare::PLACES];
     let mut random: u32 = 2463534242;
     for round in 0..557 {
         pair(&mut random, &mut tally);

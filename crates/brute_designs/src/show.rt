@@ -7,7 +7,7 @@ use crate::images::Bits;
 use crate::plain;
 use crate::plain::Plain;
 
-// How often each number was expected of each kind of comparison.
+// Prints how often each number was expected of each kind of comparison.
 pub fn counts(tally: &Tally) {
     for place in 0..DISAGREEMENTS {
         if place % 16 == 0 {
@@ -28,8 +28,8 @@ pub fn counts(tally: &Tally) {
     io::write_all(1, b"\n");
 }
 
-// What is compared.
-fn name(what: usize) {
+// Prints what is compared.
+fn name(what: usize) -> bool {
     match what {
         0 => io::write_all(1, b"FAULTS OF DESIGNS"),
         1 => io::write_all(1, b"DESIGNS TABULATED"),
@@ -41,10 +41,9 @@ fn name(what: usize) {
         7 => io::write_all(1, b"IMAGES WITH FLIPPED BITS READ"),
         _ => io::write_all(1, b"IMAGES CUT OR LENGTHENED READ"),
     }
-    ;
 }
 
-// What was compared, what the product answered and what the second way finds.
+// Prints what was compared, what the product answered and what the second way finds.
 pub fn disagreement(what: usize, found: Answer, expected: Answer) {
     io::write_all(1, b"DISAGREEMENT, ");
     name(what);
@@ -54,7 +53,7 @@ pub fn disagreement(what: usize, found: Answer, expected: Answer) {
     answer(expected);
 }
 
-// The numbers of an answer.
+// Prints the numbers of an answer.
 fn answer(a: Answer) {
     spaced(a.0);
     spaced(a.1);
@@ -64,7 +63,7 @@ fn answer(a: Answer) {
     io::write_all(1, b"\n");
 }
 
-// The numbers of a design that are in use: sizes, kind and nets of each cell, nets of flip-flops and outputs.
+// Prints the numbers of a design that are in use: sizes, kind and nets of each cell, nets of flip-flops and outputs.
 pub fn numbers(list: &Plain) {
     io::write_all(1, b"  DESIGN");
     for place in 0..plain::NUMBERS {
@@ -75,7 +74,7 @@ pub fn numbers(list: &Plain) {
     io::write_all(1, b"\n");
 }
 
-// The first n bytes of an image.
+// Prints the first n bytes of an image.
 pub fn bytes(bits: &Bits, n: usize) {
     io::write_all(1, b"  IMAGE");
     for i in 0..n {
@@ -87,7 +86,7 @@ pub fn bytes(bits: &Bits, n: usize) {
     io::write_all(1, b"\n");
 }
 
-// A space and a number.
+// Prints a space and a number.
 fn spaced(n: usize) {
     io::write_all(1, b" ");
     io::print_decimal(1, n as u64);
