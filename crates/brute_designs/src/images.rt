@@ -114,7 +114,7 @@ fn unread_set(list: &Plain) -> bool {
 }
 
 // Puts the first bits into n bytes.
-pub fn pack(bits: &Bits, n: usize, bytes: &mut [u8])
+pub(crate) fn pack(bits: &Bits, n: usize, bytes: &mut [u8])
     requires { do ⌜ n ≤ (← ⟦bytes.len()⟧) ⌝ }
 {
     for i in 0..n {
