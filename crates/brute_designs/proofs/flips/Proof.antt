@@ -1,4 +1,4 @@
--- `flips`: a turn at a time.
+-- `flips`: one bit after another.
 use Prim.Native.Nat.{_-_}
 use borrow.Author.Needs.{needs}
 use Rattle.brute_designs.proofs.flips.Statement.{statement}

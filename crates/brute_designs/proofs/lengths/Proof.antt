@@ -1,4 +1,4 @@
--- `lengths`: a turn at a time.
+-- `lengths`: one length after another.
 use Prim.Native.Nat.{_-_}
 use borrow.Author.Needs.{needs}
 use Rattle.brute_designs.proofs.lengths.Statement.{statement}

@@ -1,4 +1,4 @@
--- `main`: a turn at a time.
+-- `main`: one round after another.
 use Prim.Native.Nat.{_-_}
 use borrow.Author.Needs.{needs}
 use Rattle.brute_designs.proofs.main.Statement.{statement}

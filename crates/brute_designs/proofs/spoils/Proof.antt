@@ -1,4 +1,4 @@
--- `spoils`: a turn at a time.
+-- `spoils`: one place after another, in each way.
 use Prim.Native.Nat.{_-_}
 use borrow.Author.Needs.{needs}
 use Rattle.brute_designs.proofs.spoils.Statement.{statement}

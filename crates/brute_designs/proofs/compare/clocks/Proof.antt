@@ -1,4 +1,4 @@
--- `clocks`: a turn at a time.
+-- `clocks`: one entry after another.
 use Prim.Native.Nat.{_-_}
 use borrow.Author.Needs.{needs}
 use Rattle.brute_designs.proofs.compare.clocks.Statement.{statement}

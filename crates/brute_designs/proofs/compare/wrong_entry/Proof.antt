@@ -1,4 +1,4 @@
--- `wrong_entry`: a turn at a time.
+-- `wrong_entry`: one entry after another.
 use Prim.Native.Nat.{_-_}
 use borrow.Author.Needs.{needs}
 use Rattle.brute_designs.proofs.compare.wrong_entry.Statement.{statement}

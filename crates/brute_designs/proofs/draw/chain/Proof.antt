@@ -1,4 +1,4 @@
--- `chain`: a turn at a time.
+-- `chain`: one cell after another.
 use Prim.Native.Nat.{_-_}
 use borrow.Author.Needs.{needs}
 use Rattle.brute_designs.proofs.draw.chain.Statement.{statement}

@@ -1,4 +1,4 @@
--- `fill`: a turn at a time.
+-- `fill`: one number after another.
 use Prim.Native.Nat.{_-_}
 use borrow.Author.Needs.{needs}
 use Rattle.brute_designs.proofs.draw.fill.Statement.{statement}

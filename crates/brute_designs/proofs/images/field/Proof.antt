@@ -1,4 +1,4 @@
--- `field`: a turn at a time.
+-- `field`: one bit after another.
 use Prim.Native.Nat.{_-_}
 use borrow.Author.Needs.{needs}
 use Rattle.brute_designs.proofs.images.field.Statement.{statement}

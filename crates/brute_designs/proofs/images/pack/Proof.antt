@@ -1,4 +1,4 @@
--- `pack`: a turn at a time.
+-- `pack`: one byte after another; the slice keeps its length.
 use Prim.Native.Nat.{_-_}
 use mathlib.Core.Path.{_≡_}
 use lib.ListN.{length}

@@ -1,4 +1,4 @@
--- `put`: a turn at a time.
+-- `put`: one field after another.
 use Prim.Native.Nat.{_-_}
 use borrow.Author.Needs.{needs}
 use Rattle.brute_designs.proofs.images.put.Statement.{statement}

@@ -1,4 +1,4 @@
--- `put_field`: a turn at a time.
+-- `put_field`: one bit after another, the last first.
 use Prim.Native.Nat.{_-_}
 use borrow.Author.Needs.{needs}
 use Rattle.brute_designs.proofs.images.put_field.Statement.{statement}

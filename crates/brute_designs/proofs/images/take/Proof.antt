@@ -1,4 +1,4 @@
--- `take`: a turn at a time.
+-- `take`: one field after another.
 use Prim.Native.Nat.{_-_}
 use borrow.Author.Needs.{needs}
 use Rattle.brute_designs.proofs.images.take.Statement.{statement}

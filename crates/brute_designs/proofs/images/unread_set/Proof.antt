@@ -1,4 +1,4 @@
--- `unread_set`: a turn at a time.
+-- `unread_set`: one cell after another.
 use Prim.Native.Nat.{_-_}
 use borrow.Author.Needs.{needs}
 use Rattle.brute_designs.proofs.images.unread_set.Statement.{statement}

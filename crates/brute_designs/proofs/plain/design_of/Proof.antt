@@ -1,4 +1,4 @@
--- `design_of`: a turn at a time.
+-- `design_of`: one cell after another, and the nets beside the first of them.
 use Prim.Native.Nat.{_-_}
 use borrow.Author.Needs.{needs}
 use Rattle.brute_designs.proofs.plain.design_of.Statement.{statement}

@@ -1,4 +1,4 @@
--- `first_difference`: a turn at a time.
+-- `first_difference`: one number after another.
 use Prim.Native.Nat.{_-_}
 use borrow.Author.Needs.{needs}
 use Rattle.brute_designs.proofs.plain.first_difference.Statement.{statement}

@@ -1,4 +1,4 @@
--- `list_of`: a turn at a time.
+-- `list_of`: one cell after another, and the nets beside the first of them.
 use Prim.Native.Nat.{_-_}
 use borrow.Author.Needs.{needs}
 use Rattle.brute_designs.proofs.plain.list_of.Statement.{statement}

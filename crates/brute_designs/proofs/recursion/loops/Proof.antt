@@ -1,4 +1,4 @@
--- `loops`: a turn at a time.
+-- `loops`: one cell after another.
 use Prim.Native.Nat.{_-_}
 use borrow.Author.Needs.{needs}
 use Rattle.brute_designs.proofs.recursion.loops.Statement.{statement}

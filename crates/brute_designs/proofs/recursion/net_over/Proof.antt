@@ -1,4 +1,4 @@
--- `net_over`: a turn at a time.
+-- `net_over`: one net after another.
 use Prim.Native.Nat.{_-_}
 use borrow.Author.Needs.{needs}
 use Rattle.brute_designs.proofs.recursion.net_over.Statement.{statement}

@@ -1,4 +1,4 @@
--- `word`: a turn at a time.
+-- `word`: one net after another.
 use Prim.Native.Nat.{_-_}
 use borrow.Author.Needs.{needs}
 use Rattle.brute_designs.proofs.recursion.word.Statement.{statement}

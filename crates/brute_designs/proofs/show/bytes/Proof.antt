@@ -1,4 +1,4 @@
--- `bytes`: a turn at a time.
+-- `bytes`: one byte after another.
 use Prim.Native.Nat.{_-_}
 use borrow.Author.Needs.{needs}
 use Rattle.brute_designs.proofs.show.bytes.Statement.{statement}

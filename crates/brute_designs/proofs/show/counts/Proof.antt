@@ -1,4 +1,4 @@
--- `counts`: a turn at a time.
+-- `counts`: one count after another.
 use Prim.Native.Nat.{_-_}
 use borrow.Author.Needs.{needs}
 use Rattle.brute_designs.proofs.show.counts.Statement.{statement}

@@ -1,4 +1,4 @@
--- `numbers`: a turn at a time.
+-- `numbers`: one number after another.
 use Prim.Native.Nat.{_-_}
 use borrow.Author.Needs.{needs}
 use Rattle.brute_designs.proofs.show.numbers.Statement.{statement}
