@@ -16,6 +16,8 @@ use crate::images::Bits;
 use crate::plain::Plain;
 use std::num::wrapping_sub_usize;
 
+// Compares two pairs of designs, an image and a chain a round, and prints what was compared. The chains have from 1 to 256 cells, and are
+// open and then closed.
 fn main() {
     let mut tally = [0usize; compare::PLACES];
     let mut random: u32 = 2463534242;
@@ -23,13 +25,9 @@ fn main() {
         pair(&mut random, &mut tally);
         pair(&mut random, &mut tally);
         drawn_image(&mut random, round, &mut tally);
+        let chain = draw::chain(&mut random, (round % 256) as u16 + 1, 256 <= round);
+        compare::design(&chain, &mut tally);
     }
-    compare::design(&draw::chain(&mut random, 2, true), &mut tally);
-    compare::design(&draw::chain(&mut random, 200, false), &mut tally);
-    compare::design(&draw::chain(&mut random, 200, true), &mut tally);
-    compare::design(&draw::chain(&mut random, 255, false), &mut tally);
-    compare::design(&draw::chain(&mut random, 256, false), &mut tally);
-    compare::design(&draw::chain(&mut random, 256, true), &mut tally);
     show::counts(&tally);
 }
 

@@ -22,6 +22,18 @@ pair-requires-2 c κs = search needs
 drawn-image-requires : tie.Need-drawn-image-requires Inv-loop μ-loop
 drawn-image-requires c κs = search needs
 
+cast-chain : tie.Need-cast-chain Inv-loop μ-loop
+cast-chain c = search needs
+
+add-chain : tie.Need-add-chain Inv-loop μ-loop
+add-chain c = search needs
+
+chain-requires : tie.Need-chain-requires Inv-loop μ-loop
+chain-requires c κs = search needs
+
+design-requires : tie.Need-design-requires Inv-loop μ-loop
+design-requires c κs = search needs
+
 add-round : tie.Need-add-round Inv-loop μ-loop
 add-round c = search needs
 
@@ -30,42 +42,6 @@ loop-less c = search needs
 
 loop-again : tie.Need-loop-again Inv-loop μ-loop
 loop-again c = search needs
-
-chain-requires : tie.Need-chain-requires Inv-loop μ-loop
-chain-requires c κs = search needs
-
-design-requires : tie.Need-design-requires Inv-loop μ-loop
-design-requires c κs = search needs
-
-chain-requires-2 : tie.Need-chain-requires-2 Inv-loop μ-loop
-chain-requires-2 c κs = search needs
-
-design-requires-2 : tie.Need-design-requires-2 Inv-loop μ-loop
-design-requires-2 c κs = search needs
-
-chain-requires-3 : tie.Need-chain-requires-3 Inv-loop μ-loop
-chain-requires-3 c κs = search needs
-
-design-requires-3 : tie.Need-design-requires-3 Inv-loop μ-loop
-design-requires-3 c κs = search needs
-
-chain-requires-4 : tie.Need-chain-requires-4 Inv-loop μ-loop
-chain-requires-4 c κs = search needs
-
-design-requires-4 : tie.Need-design-requires-4 Inv-loop μ-loop
-design-requires-4 c κs = search needs
-
-chain-requires-5 : tie.Need-chain-requires-5 Inv-loop μ-loop
-chain-requires-5 c κs = search needs
-
-design-requires-5 : tie.Need-design-requires-5 Inv-loop μ-loop
-design-requires-5 c κs = search needs
-
-chain-requires-6 : tie.Need-chain-requires-6 Inv-loop μ-loop
-chain-requires-6 c κs = search needs
-
-design-requires-6 : tie.Need-design-requires-6 Inv-loop μ-loop
-design-requires-6 c κs = search needs
 
 counts-requires : tie.Need-counts-requires Inv-loop μ-loop
 counts-requires c κs = search needs
@@ -83,20 +59,12 @@ main-spec =
     pair-requires
     pair-requires-2
     drawn-image-requires
+    cast-chain
+    add-chain
+    chain-requires
+    design-requires
     add-round
     loop-less
     loop-again
-    chain-requires
-    design-requires
-    chain-requires-2
-    design-requires-2
-    chain-requires-3
-    design-requires-3
-    chain-requires-4
-    design-requires-4
-    chain-requires-5
-    design-requires-5
-    chain-requires-6
-    design-requires-6
     counts-requires
     returns)
