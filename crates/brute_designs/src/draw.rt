@@ -1,0 +1,112 @@
+// Drawing designs from a fixed sequence of numbers that look like chance, so that a run can be repeated.
+ghost use Prim.Native.Nat.{_≤_};
+use crate::plain;
+use crate::plain::Plain;
+use std::num::wrapping_add_usize;
+use std::num::wrapping_sub_usize;
+
+// The next number of the sequence, below n, or 0 where n is 0: xorshift on 32 bits, of which the upper half is used.
+pub fn below(random: &mut u32, n: usize) -> usize
+    ensures { λ r. ⌜ r ≤ n ⌝ }
+{
+    let x = *random;
+    let a = x ^ (x << 13);
+    let b = a ^ (a >> 17);
+    *random = b ^ (b << 5);
+    if n == 0 {
+        return 0;
+    }
+    x as usize / 65536 % n
+}
+
+// Draws the sizes: inputs below n, flip-flops below n + 1, outputs below 9, and cells below a number.
+pub fn sizes(random: &mut u32, n: u8, cells: u8, list: &mut Plain) {
+    plain::put(list, plain::INPUTS, below(random, n as usize));
+    plain::put(list, plain::LATCHES, below(random, n as usize + 1));
+    plain::put(list, plain::OUTPUTS, below(random, 9));
+    plain::put(list, plain::COUNT, below(random, cells as usize));
+}
+
+// Draws cells and nets for the sizes of a list, and numbers below `litter` beyond them, where they count for nothing. Without loops a
+// cell reads a cell only if that has a lower number, some bits of both numbers being turned, so that cells read earlier and later ones.
+pub fn fill(random: &mut u32, loops: bool, litter: usize, list: &mut Plain) {
+    let turned = below(random, 512);
+    for place in plain::CELLS..plain::NUMBERS {
+        let number = match plain::width(list, place) {
+            0 => below(random, litter),
+            3 => below(random, 8),
+            _ => net(random, loops, turned, list, place),
+        };
+        plain::put(list, place, number);
+    }
+}
+
+// A net for a place of a list: any net, or for a cell one that makes no loop; 0 for the second net of a kind that reads one.
+fn net(random: &mut u32, loops: bool, turned: usize, list: &Plain, place: usize) -> usize {
+    let first = plain::first_cell(list);
+    let net = below(random, first + plain::at(list, plain::COUNT));
+    if plain::DATA <= place {
+        return net;
+    }
+    if place % 3 == 0 && plain::at(list, wrapping_sub_usize(place, 2)) < 2 {
+        return 0;
+    }
+    let cell = wrapping_sub_usize(place, plain::CELLS) / 3;
+    if loops || net < first || (net - first) ^ turned < cell ^ turned {
+        return net;
+    }
+    below(random, first)
+}
+
+// A design with the number at a place spoiled in one of eight ways: a size over its limit, another kind, a net of a cell or one too high.
+// A second net that its kind does not read is 0 all the same.
+pub fn spoiled(list: &Plain, place: usize, way: usize) -> Plain {
+    let mut changed = *list;
+    let lowest = match place {
+        0 => 7,
+        1 => 8,
+        2 => 9,
+        3 => 257,
+        _ => plain::first_cell(list),
+    };
+    let kind = plain::width(list, place) == 3;
+    let number = if kind {
+        way
+    } else {
+        wrapping_add_usize(lowest, way)
+    };
+    plain::put(&mut changed, place, number);
+    plain::list_of(plain::design_of(&changed))
+}
+
+// A chain: each cell reads the next, and its value changes with that of the next. The last reads input 0, or the first cell where the
+// chain is closed; a flip-flop and an output read the first.
+pub fn chain(random: &mut u32, count: u16, closed: bool) -> Plain {
+    let mut list = [0u16; plain::NUMBERS];
+    list[plain::INPUTS] = 2;
+    list[plain::LATCHES] = 2;
+    list[plain::OUTPUTS] = 3;
+    list[plain::COUNT] = count;
+    for i in 0..count as usize {
+        let kind = below(random, 8);
+        let drawn = below(random, 6);
+        let other = match kind {
+            2 | 5 => 1,
+            4 | 7 => drawn,
+            _ => 0,
+        };
+        plain::put(&mut list, 4 + 3 * i, kind);
+        plain::put(&mut list, 5 + 3 * i, 7 + i);
+        plain::put(&mut list, 6 + 3 * i, other);
+    }
+    plain::put(
+        &mut list,
+        2 + 3 * count as usize,
+        if closed { 6 } else { 2 },
+    );
+    list[plain::DATA] = 3;
+    list[plain::DATA + 1] = 6;
+    list[plain::SHOWN] = 6;
+    list[plain::SHOWN + 2] = 5;
+    list
+}

@@ -1,0 +1,93 @@
+// Printing: the counts, and a case in which the product and the second way disagree.
+use crate::compare::Answer;
+use crate::compare::DISAGREEMENTS;
+use crate::compare::Tally;
+use crate::images;
+use crate::images::Bits;
+use crate::plain;
+use crate::plain::Plain;
+
+// Prints how often each number was expected of each kind of comparison.
+pub fn counts(tally: &Tally) {
+    for place in 0..DISAGREEMENTS {
+        if place % 16 == 0 {
+            name(place / 16);
+        }
+        if tally[place] != 0 {
+            io::write_all(1, b"\n ");
+            spaced(place % 16);
+            io::write_all(1, b":");
+            spaced(tally[place]);
+        }
+        if place % 16 == 15 {
+            io::write_all(1, b"\n");
+        }
+    }
+    io::write_all(1, b"DISAGREEMENTS");
+    spaced(tally[DISAGREEMENTS]);
+    io::write_all(1, b"\n");
+}
+
+// Prints what is compared.
+fn name(what: usize) -> bool {
+    match what {
+        0 => io::write_all(1, b"FAULTS OF DESIGNS"),
+        1 => io::write_all(1, b"DESIGNS TABULATED"),
+        2 => io::write_all(1, b"CLOCKS"),
+        3 => io::write_all(1, b"PAIRS TABULATED"),
+        4 => io::write_all(1, b"DESIGNS WRITTEN"),
+        5 => io::write_all(1, b"SPOILED DESIGNS WRITTEN"),
+        6 => io::write_all(1, b"IMAGES READ"),
+        7 => io::write_all(1, b"IMAGES WITH FLIPPED BITS READ"),
+        _ => io::write_all(1, b"IMAGES CUT OR LENGTHENED READ"),
+    }
+}
+
+// Prints what was compared, what the product answered and what the second way finds.
+pub fn disagreement(what: usize, found: Answer, expected: Answer) {
+    io::write_all(1, b"DISAGREEMENT, ");
+    name(what);
+    io::write_all(1, b"\n  FOUND");
+    answer(found);
+    io::write_all(1, b"  EXPECTED");
+    answer(expected);
+}
+
+// Prints the numbers of an answer.
+fn answer(a: Answer) {
+    spaced(a.0);
+    spaced(a.1);
+    spaced(a.2);
+    spaced(a.3);
+    spaced(a.4);
+    io::write_all(1, b"\n");
+}
+
+// Prints the numbers of a design that are in use: sizes, kind and nets of each cell, nets of flip-flops and outputs.
+pub fn numbers(list: &Plain) {
+    io::write_all(1, b"  DESIGN");
+    for place in 0..plain::NUMBERS {
+        if plain::width(list, place) != 0 {
+            spaced(plain::at(list, place));
+        }
+    }
+    io::write_all(1, b"\n");
+}
+
+// Prints the first n bytes of an image.
+pub fn bytes(bits: &Bits, n: usize) {
+    io::write_all(1, b"  IMAGE");
+    for i in 0..n {
+        if i < images::BYTES {
+            io::write_all(1, b" ");
+            io::print_hex(1, images::field(bits, 8 * i, 8) as u64, 2);
+        }
+    }
+    io::write_all(1, b"\n");
+}
+
+// Prints a space and a number.
+fn spaced(n: usize) {
+    io::write_all(1, b" ");
+    io::print_decimal(1, n as u64);
+}
