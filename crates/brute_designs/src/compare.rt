@@ -72,7 +72,7 @@ fn judge(what: usize, list: &Plain, found: Answer, expected: Answer, tally: &mut
 // Compares the number of a design, its tables and its clocks, and hands back the number.
 pub fn design(list: &Plain, tally: &mut Tally) -> usize {
     let number = recursion::number(list);
-    let fault = netlist::fault_of(plain::design_of(list)) as usize;
+    let fault = order::fault_of(plain::design_of(list)) as usize;
     judge(
         FAULT,
         list,

@@ -91,7 +91,7 @@ fn answer(call: usize, old: Design, new: Design, n: [u16; NUMBERS], bytes: &[u8]
         calls::TABULATE => ask_tabulate(old, n),
         calls::WRITE => ask_write(old, n),
         calls::CLOCK => ask_clock(old, n),
-        calls::FAULT_OF => show::item(b"fault ", netlist::fault_of(old) as usize),
+        calls::FAULT_OF => show::item(b"fault ", order::fault_of(old) as usize),
         calls::LENGTH_OF => show::measured(image::length_of(bytes)),
         calls::READ => show::reading(image::read(bytes)),
         calls::LIMITS => show::limits(Image::limits()),
@@ -146,7 +146,7 @@ fn ask_compare(old: Design, new: Design, n: [u16; NUMBERS]) {
     let depth = slices::numbers(&mut depth, lengths.e);
     let reach = slices::numbers(&mut reach, lengths.f);
     let list = slices::bytes(&mut list, lengths.g);
-    let judged = compare::compare_counting(old, new, next0, out0, next1, out1, depth, reach, list);
+    let judged = compare::compare(old, new, next0, out0, next1, out1, depth, reach, list);
     show::judged(judged);
     show::bytes(next0, false);
     show::bytes(out0, false);
@@ -286,7 +286,7 @@ fn answer_tables(
             show::found(r);
         }
         _ => {
-            let r = verdict::judge_counting(next0, out0, next1, out1, sizes, depth, reach, list);
+            let r = verdict::judge(next0, out0, next1, out1, sizes, depth, reach, list);
             show::judged(r);
         }
     }
