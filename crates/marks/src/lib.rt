@@ -48,7 +48,7 @@ fn successors(
     let mut s = 0;
     while s < states {
         if marks[s] {
-            let q = search::byte_at(next, search::cell(s, v, states, vectors));
+            let q = search::byte_at(next, search::place_of(s, v, states, vectors));
             out[q] = true;
         }
         s += 1;

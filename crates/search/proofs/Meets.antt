@@ -16,7 +16,7 @@ use Rattle.machine.proofs.Numbers.{number-in, number-inj, pairAt-in, at-pair}
 use Rattle.numbers.specs.Meaning.Count.{countOf}
 use Rattle.numbers.proofs.Counting.{count-le, count-change}
 use Rattle.numbers.proofs.Order.{tri}
-use Rattle.search.specs.Working.{Open, Met}
+use Rattle.search.specs.Working.{Writable, Met}
 
 zeros-set : (d : List ℕ) (n i x : ℕ) → i < n → i < length d → getD d i 0 ≡ 0 → 0 < x → countOf 0 d n ≡ suc (countOf 0 (set d i x) n)
 zeros-set d n i x h l z p =
@@ -35,7 +35,7 @@ module _ {z : Sizes} {k : ℕ} where
   met-kept {d} p i e n = met-none (λ q h s o. n (ap (λ (x : ℕ). getD d x 0) e ∙ subst (λ (x : Pair). at z d x ≡ 0) s o))
 
   -- one pair, which is
-  module _ {d : List ℕ} {rows : List Bool} (p : Pair) (i : ℕ) (e : i ≡ number z p) (ip : In z p) (w : Open z k d rows) (o : getD d i 0 ≡ 0) where
+  module _ {d : List ℕ} {rows : List Bool} (p : Pair) (i : ℕ) (e : i ≡ number z p) (ip : In z p) (w : Writable z k d rows) (o : getD d i 0 ≡ 0) where
     pub met-one : Met z k (λ q. q ≡ p) d (set d i (k + 1)) rows (set rows (p .old) true) 1
     met-one = rw e record {
       each = λ q h. each q h (tri (number z q) (number z p));
@@ -93,8 +93,8 @@ module _ {z : Sizes} {k : ℕ} where
     pub met-few : r ≤ pairs z
     met-few = omega (arith, a .counts, count-le (λ i. eqb (getD d i 0) 0) (pairs z))
 
-    pub met-open : Open z k d rows → Open z k d′ rows′
-    met-open w = record { few = w .few; some = w .some; most = w .most; room = omega (arith, a .long, w .room); marks = a .rows-long ∙ w .marks }
+    pub met-writable : Writable z k d rows → Writable z k d′ rows′
+    met-writable w = record { few = w .few; some = w .some; most = w .most; room = omega (arith, a .long, w .room); marks = a .rows-long ∙ w .marks }
 
     -- the maps before and after agree on who holds k
     module _ (pos : 0 < k) where

@@ -13,9 +13,9 @@ use Rattle.machine.specs.Meaning.Tables.{pairs, number, at, In}
 use Rattle.machine.specs.Working.Pairs.{pairAt}
 use Rattle.machine.proofs.Numbers.{same-pair, number-in, number-pair, pair-number, pairAt-in}
 use Rattle.numbers.proofs.Order.{tri}
-use Rattle.search.specs.Working.{move, Nexts, Listed, Inverts, On, Chain, Chains, Open, Met, Numbers, Gathered, Before, Into, Unmarked, Rounded}
-use Rattle.search.proofs.Cells.{closed}
-use Rattle.search.proofs.Meets.{met-none, met-same, met-open, met-back, met-forth, met-then}
+use Rattle.search.specs.Working.{move, Nexts, Listed, Inverts, On, Chain, Chains, Writable, Met, Numbers, Gathered, Before, Into, Unmarked, Rounded}
+use Rattle.search.proofs.Places.{closed}
+use Rattle.search.proofs.Meets.{met-none, met-same, met-writable, met-back, met-forth, met-then}
 use Rattle.search.proofs.Chains.{Along, along-start, along-less, along-here, along-more, along-split, on-under, on-leads, leads-on}
 
 -- of the pairs A, whose state `f p` is on the chain from x₀, those are met that the walk has passed
@@ -112,8 +112,8 @@ module _ {z : Sizes} {next0 next1 : List ℕ} {k : ℕ} {d₀ : List ℕ} where
   sweeping-start = record { under = omega arith; met = met-none (λ p h s. absurd (omega (arith, s .leads .0))) }
 
   module _ {i r : ℕ} {d : List ℕ} {rows : List Bool} (a : Sweeping z next0 next1 k d₀ i d rows r) where
-    pub sweeping-open : Nexts z next0 next1 → 0 < k → k < 65535 → pairs z ≤ length d₀ → Open z k d rows
-    sweeping-open w pos top room = met-open (a .met) (record { few = w .few; some = pos; most = top; room = room; marks = length-replicate 128 false })
+    pub sweeping-writable : Nexts z next0 next1 → 0 < k → k < 65535 → pairs z ≤ length d₀ → Writable z k d rows
+    sweeping-writable w pos top room = met-writable (a .met) (record { few = w .few; some = pos; most = top; room = room; marks = length-replicate 128 false })
 
     -- the rows with no k have none yet
     pub sweeping-marks : {marks : List Bool} → 0 < k → Unmarked z marks (λ p. at z d₀ p ≡ k → ⊥) → Unmarked z marks (λ p. at z d p ≡ k → ⊥)

@@ -50,8 +50,8 @@ module _ (t : Tables) (g : Good t) where
       back : (p : Pair) → In z p → Goal p → Ones z d₀ p
       back p i o = flag-is (f .each (number z p) (number-in z p i)) (b p i o)
 
-  pub map-apart : {d d₀ d′ : List ℕ} {r : ℕ} → Flagged (DiffersAt z (t .old-out) (t .new-out)) (pairs z) d d₀ → Searched z (t .old-next) (t .new-next) d₀ d′ r → MapOf t (DiffersIn t) d′ r
-  map-apart f s = map-of f (λ p i o. rw (pair-number z p i) at o) (λ p i o. rw (pair-number z p i) o) s
+  pub map-traces : {d d₀ d′ : List ℕ} {r : ℕ} → Flagged (DiffersAt z (t .old-out) (t .new-out)) (pairs z) d d₀ → Searched z (t .old-next) (t .new-next) d₀ d′ r → MapOf t (DiffersIn t) d′ r
+  map-traces f s = map-of f (λ p i o. rw (pair-number z p i) at o) (λ p i o. rw (pair-number z p i) o) s
 
   module _ {d : List ℕ} (m : MapFor t (DiffersIn t) d) where
     pub alike-of-zero : (p : Pair) → In z p → at z d p ≡ 0 → AlikeIn t p

@@ -124,7 +124,7 @@ module _ (t : Tables) where
       module _ {i : ℕ} (s : LowestBelow (OpenAt z marks0 marks1 reach) (pairs z) i) where
         -- a pair below the one that the scan found is alike
         below : (q : Pair) → May m0 m1 z (take len list) q → number z q < i → AlikeIn t q
-        below q y h = alike-one q iq (stable (at z reach q) 1 (λ n. s .below (number z q) h (record { mark0 = ap (λ (x : Pair). getD marks0 (x .old) false) (pair-number z q iq) ∙ marked q y .0; mark1 = ap (λ (x : Pair). getD marks1 (x .new) false) (pair-number z q iq) ∙ marked q y .1; apart = n })))
+        below q y h = alike-one q iq (stable (at z reach q) 1 (λ n. s .below (number z q) h (record { mark0 = ap (λ (x : Pair). getD marks0 (x .old) false) (pair-number z q iq) ∙ marked q y .0; mark1 = ap (λ (x : Pair). getD marks1 (x .new) false) (pair-number z q iq) ∙ marked q y .1; unlike = n })))
           where
             iq : In z q
             iq = may-inside q y
@@ -150,7 +150,7 @@ module _ (t : Tables) where
                 let f = s .found found-under in
                 record {
                   may = may p ins (ap (λ (x : Pair). getD marks0 (x .old) false) q ∙ f .mark0) (ap (λ (x : Pair). getD marks1 (x .new) false) q ∙ f .mark1);
-                  open′ = λ a. f .apart (sym (ap (λ (x : ℕ). getD reach x 0) numbered) ∙ one-alike p ins a);
+                  open′ = λ a. f .unlike (sym (ap (λ (x : ℕ). getD reach x 0) numbered) ∙ one-alike p ins a);
                   lower = λ x y l. below x y (omega (arith, numbered));
                 }
 

@@ -49,6 +49,6 @@ answered (Verdict.Refused n) (inr h) m = absurd (omega arith)
 -- what the counts of two maps that are right say
 pub map-counts : {t : Tables} {depth reach : List ℕ} {n k : ℕ} → Mapped t depth reach → MapCounts (t .sizes) depth reach n k → CountsPairs (oldMachine t) (newMachine t) (t .sizes) n k
 map-counts {t} {depth} {reach} m c = record {
-  alike = rw (c .alike) (counts-zeros depth (alike-of-zero t (m .good) (m .both .apart)) (zero-of-alike t (m .good) (m .both .apart)));
+  alike = rw (c .alike) (counts-zeros depth (alike-of-zero t (m .good) (m .both .traces)) (zero-of-alike t (m .good) (m .both .traces)));
   alignable = counts-others reach (c .alignable) (alignable-of-some t m) (some-of-alignable t m);
 }

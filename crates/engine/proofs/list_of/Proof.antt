@@ -8,8 +8,8 @@ use borrow.Author.Needs.{needs}
 use Rattle.engine.proofs.list_of.Statement.{statement}
 use Rattle.engine.proofs.list_of.Tie as tie
 
-open-pair-requires : tie.Need-open-pair-requires
-open-pair-requires c κs = search needs
+begin-pair-requires : tie.Need-begin-pair-requires
+begin-pair-requires c κs = search needs
 
 same-length : tie.Need-same-length
 same-length c = search needs
@@ -22,15 +22,15 @@ same-length-3 c = search needs
 
 returns : tie.Need-returns
 returns c = record {
-  keeps = (lowest-state _ _ _ _ _ (c .before .before .before .before .before .before .before .open-pair .ensures .0 .some (c .if1 .taken)), c .before .before .before .before .before .before .before .open-pair .ensures .1 .written .zero);
-  tidy = tidy-of (c .before .before .before .before .before .before .before .open-pair .ensures .1);
+  keeps = (lowest-state _ _ _ _ _ (c .before .before .before .before .before .before .before .begin-pair .ensures .0 .some (c .if1 .taken)), c .before .before .before .before .before .before .before .begin-pair .ensures .1 .written .zero);
+  tidy = tidy-of (c .before .before .before .before .before .before .before .begin-pair .ensures .1);
 }
 
 write-list-requires : tie.Need-write-list-requires
 write-list-requires c κs =
-    let f = c .before .before .before .before .before .before .before .before .before .before .open-pair .ensures .0 .none (c .before .before .before .if1 .left) in
+    let f = c .before .before .before .before .before .before .before .before .before .before .begin-pair .ensures .0 .none (c .before .before .before .if1 .left) in
     let h = room-enough (free-call f) in
-    (good (free-call f), ((omega (arith, h, c .before .before .before .before .before .before .before .before .before .before .open-pair .ensures .1 .depth .size), omega (arith, h, c .before .before .before .before .before .before .before .before .before .before .open-pair .ensures .1 .reach .size)), free-in f))
+    (good (free-call f), ((omega (arith, h, c .before .before .before .before .before .before .before .before .before .before .begin-pair .ensures .1 .depth .size), omega (arith, h, c .before .before .before .before .before .before .before .before .before .before .begin-pair .ensures .1 .reach .size)), free-in f))
 
 same-length-4 : tie.Need-same-length-4
 same-length-4 c = search needs
@@ -43,9 +43,9 @@ same-length-6 c = search needs
 
 returns-2 : tie.Need-returns-2
 returns-2 c =
-    let e = c .before .before .before .before .before .before .before .before .before .before .before .before .before .before .before .before .before .open-pair .ensures .1 in
+    let e = c .before .before .before .before .before .before .before .before .before .before .before .before .before .before .before .before .before .begin-pair .ensures .1 in
     record {
-      keeps = keeps-outcome _ _ _ _ _ (c .before .before .before .before .before .before .before .before .before .before .before .before .before .before .before .before .before .open-pair .ensures .0 .none (c .before .before .before .before .before .before .before .before .before .before .if1 .left)) (λ a b x y. picked-unique x y) (c .before .before .before .before .before .before .write-list .ensures .0) (e .written .size) (search needs) (e .written .zero);
+      keeps = keeps-outcome _ _ _ _ _ (c .before .before .before .before .before .before .before .before .before .before .before .before .before .before .before .before .before .begin-pair .ensures .0 .none (c .before .before .before .before .before .before .before .before .before .before .if1 .left)) (λ a b x y. picked-unique x y) (c .before .before .before .before .before .before .write-list .ensures .0) (e .written .size) (search needs) (e .written .zero);
       tidy = record { depth = rw (e .depth .size) at (c .before .before .before .before .before .before .write-list .ensures .1 .0); reach = rw (e .reach .size) at (c .before .before .before .before .before .before .write-list .ensures .1 .1); written = search needs };
     }
 
@@ -53,7 +53,7 @@ pub list-of-spec : {M : Type 1} → statement M
 list-of-spec =
     tie.close
     (tie.spec
-    open-pair-requires
+    begin-pair-requires
     same-length
     same-length-2
     same-length-3

@@ -4,8 +4,8 @@ use borrow.Author.Needs.{needs}
 use Rattle.engine.proofs.map_alignable.Statement.{statement}
 use Rattle.engine.proofs.map_alignable.Tie as tie
 
-open-map-requires : tie.Need-open-map-requires
-open-map-requires c κs = search needs
+begin-map-requires : tie.Need-begin-map-requires
+begin-map-requires c κs = search needs
 
 same-length : tie.Need-same-length
 same-length c = search needs
@@ -18,14 +18,14 @@ same-length-3 c = search needs
 
 returns : tie.Need-returns
 returns c = record {
-  keeps = (c .before .before .before .before .before .before .before .open-map .ensures .0 .some (c .if1 .taken), c .before .before .before .before .before .before .before .open-map .ensures .1 .written .zero);
-  tidy = tidy-of (c .before .before .before .before .before .before .before .open-map .ensures .1);
+  keeps = (c .before .before .before .before .before .before .before .begin-map .ensures .0 .some (c .if1 .taken), c .before .before .before .before .before .before .before .begin-map .ensures .1 .written .zero);
+  tidy = tidy-of (c .before .before .before .before .before .before .before .begin-map .ensures .1);
 }
 
 mark-alignable-requires : tie.Need-mark-alignable-requires
 mark-alignable-requires c κs =
-    let e = c .before .before .before .before .before .before .before .before .before .before .open-map .ensures .1 in
-    (rw (e .depth .size, e .reach .size, e .written .size) (c .before .before .before .before .before .before .before .before .before .before .open-map .ensures .0 .none (c .before .before .before .if1 .left)), e .written .zero)
+    let e = c .before .before .before .before .before .before .before .before .before .before .begin-map .ensures .1 in
+    (rw (e .depth .size, e .reach .size, e .written .size) (c .before .before .before .before .before .before .before .before .before .before .begin-map .ensures .0 .none (c .before .before .before .if1 .left)), e .written .zero)
 
 same-length-4 : tie.Need-same-length-4
 same-length-4 c = search needs
@@ -37,13 +37,13 @@ same-length-6 : tie.Need-same-length-6
 same-length-6 c = search needs
 
 returns-2 : tie.Need-returns-2
-returns-2 c = let e = c .before .before .before .before .before .before .before .before .before .before .before .before .before .before .before .before .before .open-map .ensures .1 in rw (e .depth .size, e .reach .size, e .written .size) at (c .before .before .before .before .before .before .mark-alignable .ensures)
+returns-2 c = let e = c .before .before .before .before .before .before .before .before .before .before .before .before .before .before .before .before .before .begin-map .ensures .1 in rw (e .depth .size, e .reach .size, e .written .size) at (c .before .before .before .before .before .before .mark-alignable .ensures)
 
 pub map-alignable-spec : {M : Type 1} → statement M
 map-alignable-spec =
     tie.close
     (tie.spec
-    open-map-requires
+    begin-map-requires
     same-length
     same-length-2
     same-length-3

@@ -5,8 +5,8 @@ use borrow.Author.Needs.{needs}
 use Rattle.engine.proofs.mark_alike.Statement.{statement}
 use Rattle.engine.proofs.mark_alike.Tie as tie
 
-map-apart-requires : tie.Need-map-apart-requires
-map-apart-requires c κs = (good (c .before .before .before .before .before .before .before .before .pre .0), fits-each (room-enough (c .before .before .before .before .before .before .before .before .pre .0)) .1)
+map-traces-requires : tie.Need-map-traces-requires
+map-traces-requires c κs = (good (c .before .before .before .before .before .before .before .before .pre .0), fits-each (room-enough (c .before .before .before .before .before .before .before .before .pre .0)) .1)
 
 total-requires : tie.Need-total-requires
 total-requires c κs = good (c .before .before .before .before .before .before .before .before .before .before .before .pre .0) .nexts .few
@@ -36,8 +36,8 @@ returns c =
       keeps = (
         c .before .before .before .before .before .before .before .before .before .before .before .before .before .before .before .before .before .before .before .before .before .before .before .before .before .before .before .before .before .pre .0,
         record {
-          marks = marks-alike _ (good (c .before .before .before .before .before .before .before .before .before .before .before .before .before .before .before .before .before .before .before .before .before .before .before .before .before .before .before .before .before .pre .0)) (c .before .before .before .before .before .before .before .before .before .before .before .before .before .before .before .before .before .before .before .before .map-apart .ensures .complete) (rw n at (c .before .before .before .before .before .before .before .before .before .before .before .before .before .before .aligned-start .ensures)) (rw n at (c .before .before .before .before .before .before .before .before .before .mark-positive .ensures .0)) (c .before .before .before .before .before .before .before .before .before .before .before .before .before .before .before .before .before .before .before .before .before .before .before .before .before .before .before .before .before .pre .1) (rw n at (c .before .before .before .before .before .before .before .before .before .mark-positive .ensures .1));
-          round = alike-round (c .before .before .before .before .before .before .before .before .before .before .before .before .before .before .before .before .before .before .before .before .map-apart .ensures);
+          marks = marks-alike _ (good (c .before .before .before .before .before .before .before .before .before .before .before .before .before .before .before .before .before .before .before .before .before .before .before .before .before .before .before .before .before .pre .0)) (c .before .before .before .before .before .before .before .before .before .before .before .before .before .before .before .before .before .before .before .before .map-traces .ensures .complete) (rw n at (c .before .before .before .before .before .before .before .before .before .before .before .before .before .before .aligned-start .ensures)) (rw n at (c .before .before .before .before .before .before .before .before .before .mark-positive .ensures .0)) (c .before .before .before .before .before .before .before .before .before .before .before .before .before .before .before .before .before .before .before .before .before .before .before .before .before .before .before .before .before .pre .1) (rw n at (c .before .before .before .before .before .before .before .before .before .mark-positive .ensures .1));
+          round = alike-round (c .before .before .before .before .before .before .before .before .before .before .before .before .before .before .before .before .before .before .before .before .map-traces .ensures);
         },
       );
       tidy = record { depth = search needs; reach = search needs; written = search needs };
@@ -47,7 +47,7 @@ pub mark-alike-spec : {M : Type 1} → statement M
 mark-alike-spec =
     tie.close
     (tie.spec
-    map-apart-requires
+    map-traces-requires
     total-requires
     aligned-start-requires
     mark-positive-requires

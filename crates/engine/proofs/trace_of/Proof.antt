@@ -8,8 +8,8 @@ use borrow.Author.Needs.{needs}
 use Rattle.engine.proofs.trace_of.Statement.{statement}
 use Rattle.engine.proofs.trace_of.Tie as tie
 
-open-pair-requires : tie.Need-open-pair-requires
-open-pair-requires c κs = search needs
+begin-pair-requires : tie.Need-begin-pair-requires
+begin-pair-requires c κs = search needs
 
 same-length : tie.Need-same-length
 same-length c = search needs
@@ -22,14 +22,14 @@ same-length-3 c = search needs
 
 returns : tie.Need-returns
 returns c = record {
-  keeps = (lowest-state _ _ _ _ _ (c .before .before .before .before .before .before .before .open-pair .ensures .0 .some (c .if1 .taken)), c .before .before .before .before .before .before .before .open-pair .ensures .1 .written .zero);
-  tidy = tidy-of (c .before .before .before .before .before .before .before .open-pair .ensures .1);
+  keeps = (lowest-state _ _ _ _ _ (c .before .before .before .before .before .before .before .begin-pair .ensures .0 .some (c .if1 .taken)), c .before .before .before .before .before .before .before .begin-pair .ensures .1 .written .zero);
+  tidy = tidy-of (c .before .before .before .before .before .before .before .begin-pair .ensures .1);
 }
 
 write-trace-requires : tie.Need-write-trace-requires
 write-trace-requires c κs =
-    let f = c .before .before .before .before .before .before .before .before .before .open-pair .ensures .0 .none (c .before .before .if1 .left) in
-    (good (free-call f), (omega (arith, room-enough (free-call f), c .before .before .before .before .before .before .before .before .before .open-pair .ensures .1 .depth .size), free-in f))
+    let f = c .before .before .before .before .before .before .before .before .before .begin-pair .ensures .0 .none (c .before .before .if1 .left) in
+    (good (free-call f), (omega (arith, room-enough (free-call f), c .before .before .before .before .before .before .before .before .before .begin-pair .ensures .1 .depth .size), free-in f))
 
 same-length-4 : tie.Need-same-length-4
 same-length-4 c = search needs
@@ -42,9 +42,9 @@ same-length-6 c = search needs
 
 returns-2 : tie.Need-returns-2
 returns-2 c =
-    let e = c .before .before .before .before .before .before .before .before .before .before .before .before .before .before .open-pair .ensures .1 in
+    let e = c .before .before .before .before .before .before .before .before .before .before .before .before .before .before .begin-pair .ensures .1 in
     record {
-      keeps = keeps-outcome _ _ _ _ _ (c .before .before .before .before .before .before .before .before .before .before .before .before .before .before .open-pair .ensures .0 .none (c .before .before .before .before .before .before .before .if1 .left)) (λ a b x y. picked-unique x y) (c .before .before .before .before .write-trace .ensures .0) (e .written .size) (search needs) (e .written .zero);
+      keeps = keeps-outcome _ _ _ _ _ (c .before .before .before .before .before .before .before .before .before .before .before .before .before .before .begin-pair .ensures .0 .none (c .before .before .before .before .before .before .before .if1 .left)) (λ a b x y. picked-unique x y) (c .before .before .before .before .write-trace .ensures .0) (e .written .size) (search needs) (e .written .zero);
       tidy = record { depth = rw (e .depth .size) at (c .before .before .before .before .write-trace .ensures .1); reach = e .reach; written = search needs };
     }
 
@@ -52,7 +52,7 @@ pub trace-of-spec : {M : Type 1} → statement M
 trace-of-spec =
     tie.close
     (tie.spec
-    open-pair-requires
+    begin-pair-requires
     same-length
     same-length-2
     same-length-3

@@ -3,11 +3,11 @@ use borrow.Author.Needs.{needs}
 use Rattle.engine.proofs.write_trace.Statement.{statement}
 use Rattle.engine.proofs.write_trace.Tie as tie
 
-map-apart-requires : tie.Need-map-apart-requires
-map-apart-requires c κs = search needs
+map-traces-requires : tie.Need-map-traces-requires
+map-traces-requires c κs = search needs
 
 find-trace-requires : tie.Need-find-trace-requires
-find-trace-requires c κs = (c .before .before .before .before .before .before .before .before .before .before .before .before .pre .0, (search needs, (c .before .before .before .before .map-apart .ensures .complete, c .before .before .before .before .before .before .before .before .before .before .before .before .pre .1 .1)))
+find-trace-requires c κs = (c .before .before .before .before .before .before .before .before .before .before .before .before .pre .0, (search needs, (c .before .before .before .before .map-traces .ensures .complete, c .before .before .before .before .before .before .before .before .before .before .before .before .pre .1 .1)))
 
 clear-numbers-requires : tie.Need-clear-numbers-requires
 clear-numbers-requires c κs = search needs
@@ -25,7 +25,7 @@ pub write-trace-spec : {M : Type 1} → statement M
 write-trace-spec =
     tie.close
     (tie.spec
-    map-apart-requires
+    map-traces-requires
     find-trace-requires
     clear-numbers-requires
     same-length

@@ -20,17 +20,17 @@ loop-holds c = (omega arith, partial-start _ _)
 array-read-if1 : tie.Need-array-read-if1 Inv-loop μ-loop
 array-read-if1 c = omega (arith, c .loop-test .taken, c .before .before .before .pre .0 .few)
 
-cell-requires : tie.Need-cell-requires Inv-loop μ-loop
-cell-requires c κs =
+place-of-requires : tie.Need-place-of-requires Inv-loop μ-loop
+place-of-requires c κs =
     (c .before .loop-test .taken, (c .before .before .before .before .pre .1, (c .before .before .before .before .pre .0 .few, omega (arith, c .before .before .before .before .pre .0 .few-vectors))))
 
 byte-at-requires : tie.Need-byte-at-requires Inv-loop μ-loop
 byte-at-requires c κs =
-    omega (arith, c .cell .ensures .under, c .before .before .before .before .before .pre .0 .long)
+    omega (arith, c .place-of .ensures .under, c .before .before .before .before .before .pre .0 .long)
 
 array-write-out : tie.Need-array-write-out Inv-loop μ-loop
 array-write-out c =
-    omega (arith, c .byte-at .ensures, c .before .before .before .before .before .before .pre .0 .few, c .before .before .before .before .before .before .pre .0 .stays _ (c .before .cell .ensures .under))
+    omega (arith, c .byte-at .ensures, c .before .before .before .before .before .before .pre .0 .few, c .before .before .before .before .before .before .pre .0 .stays _ (c .before .place-of .ensures .under))
 
 add-s : tie.Need-add-s Inv-loop μ-loop
 add-s c = omega (arith, c .before .loop-test .taken, c .before .before .before .before .pre .0 .few)
@@ -59,7 +59,7 @@ successors-spec =
     μ-loop
     loop-holds
     array-read-if1
-    cell-requires
+    place-of-requires
     byte-at-requires
     array-write-out
     add-s

@@ -5,7 +5,7 @@ use mathlib.Core.Logic.{⊎-elim}
 use native.Mathlib.Omega.{arith}
 use Rattle.machine.specs.Meaning.Tables.{pairs, holds, fails}
 use Rattle.search.proofs.Flags.{flagged-start, flagged-more, flagged-end}
-use Rattle.search.proofs.Cells.{differs-some, differs-none}
+use Rattle.search.proofs.Places.{differs-some, differs-none}
 use Rattle.search.specs.Working.{Flagged, DiffersAt}
 use Rattle.search.proofs.differ.Statement.{statement}
 use Rattle.search.proofs.differ.Tie as tie

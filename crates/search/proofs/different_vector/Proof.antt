@@ -3,7 +3,7 @@ use Prim.Native.Nat.{_-_}
 use native.Mathlib.Omega.{arith}
 use borrow.Author.Needs.{needs}
 use Rattle.search.specs.Working.{NoneBelow, Different}
-use Rattle.search.proofs.Cells.{scan-start, scan-more, scan-found, scan-none}
+use Rattle.search.proofs.Places.{scan-start, scan-more, scan-found, scan-none}
 use Rattle.search.proofs.different_vector.Statement.{statement}
 use Rattle.search.proofs.different_vector.Tie as tie
 

@@ -3,8 +3,8 @@ use Prim.Native.Nat.{_≤_, _-_}
 use native.Mathlib.Omega.{arith}
 use native.Mathlib.Nat.{le-antisymm}
 use Rattle.search.specs.Working.{Listed, Met, Into}
-use Rattle.search.proofs.Cells.{few-pairs, table-old, table-new}
-use Rattle.search.proofs.Meets.{met-few, met-open}
+use Rattle.search.proofs.Places.{few-pairs, table-old, table-new}
+use Rattle.search.proofs.Meets.{met-few, met-writable}
 use Rattle.search.proofs.Chains.{inverts-chains}
 use Rattle.search.proofs.Walks.{into-start, into-more}
 use Rattle.search.proofs.expand.Statement.{statement}
@@ -26,7 +26,7 @@ invert-requires-2 : tie.Need-invert-requires-2 Inv-loop μ-loop
 invert-requires-2 c κs = (table-new (c .before .before .before .before .before .before .before .pre .0), c .before .if1 .taken)
 
 meet-all-requires : tie.Need-meet-all-requires Inv-loop μ-loop
-meet-all-requires c κs = (met-open (c .before .before .before .before .before .before .loop .inv .1) (c .before .before .before .before .before .before .before .before .before .before .pre .1 .0), (c .before .before .before .before .before .before .before .before .before .before .pre .1 .1, (inverts-chains (c .before .before .before .invert .ensures) (c .before .before .before .before .before .before .before .before .before .before .pre .0 .few .few-old), inverts-chains (c .before .before .invert2 .ensures) (c .before .before .before .before .before .before .before .before .before .before .pre .0 .few .few-new))))
+meet-all-requires c κs = (met-writable (c .before .before .before .before .before .before .loop .inv .1) (c .before .before .before .before .before .before .before .before .before .before .pre .1 .0), (c .before .before .before .before .before .before .before .before .before .before .pre .1 .1, (inverts-chains (c .before .before .before .invert .ensures) (c .before .before .before .before .before .before .before .before .before .before .pre .0 .few .few-old), inverts-chains (c .before .before .invert2 .ensures) (c .before .before .before .before .before .before .before .before .before .before .pre .0 .few .few-new))))
 
 add-fresh : tie.Need-add-fresh Inv-loop μ-loop
 add-fresh c = omega (arith, met-few (c .before .before .before .before .before .before .before .before .before .loop .inv .1), met-few (c .before .before .meet-all .ensures), few-pairs (c .before .before .before .before .before .before .before .before .before .before .before .before .before .pre .0 .few))

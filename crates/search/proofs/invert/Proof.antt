@@ -17,14 +17,14 @@ abbrev μ-loop : tie.MeasureT-loop
 loop-holds : tie.Need-loop-holds Inv-loop μ-loop
 loop-holds c = linked-start (c .before .pre .0 .few)
 
-cell-requires : tie.Need-cell-requires Inv-loop μ-loop
-cell-requires c κs = (c .loop-test .taken, (c .before .before .before .pre .1, (c .before .before .before .pre .0 .few, omega (arith, c .before .before .before .pre .0 .few-vectors))))
+place-of-requires : tie.Need-place-of-requires Inv-loop μ-loop
+place-of-requires c κs = (c .loop-test .taken, (c .before .before .before .pre .1, (c .before .before .before .pre .0 .few, omega (arith, c .before .before .before .pre .0 .few-vectors))))
 
 byte-at-requires : tie.Need-byte-at-requires Inv-loop μ-loop
-byte-at-requires c κs = omega (arith, c .cell .ensures .under, c .before .before .before .before .pre .0 .long)
+byte-at-requires c κs = omega (arith, c .place-of .ensures .under, c .before .before .before .before .pre .0 .long)
 
 array-read-link : tie.Need-array-read-link Inv-loop μ-loop
-array-read-link c = omega (arith, c .byte-at .ensures, c .before .before .before .before .before .pre .0 .few, c .before .before .before .before .before .pre .0 .leads _ (c .before .cell .ensures .under))
+array-read-link c = omega (arith, c .byte-at .ensures, c .before .before .before .before .before .pre .0 .few, c .before .before .before .before .before .pre .0 .leads _ (c .before .place-of .ensures .under))
 
 array-write-link : tie.Need-array-write-link Inv-loop μ-loop
 array-write-link c = search needs
@@ -36,7 +36,7 @@ cast-first : tie.Need-cast-first Inv-loop μ-loop
 cast-first c = search needs
 
 array-write-first : tie.Need-array-write-first Inv-loop μ-loop
-array-write-first c = omega (arith, c .byte-at .ensures, c .before .before .before .before .before .pre .0 .few, c .before .before .before .before .before .pre .0 .leads _ (c .before .cell .ensures .under))
+array-write-first c = omega (arith, c .byte-at .ensures, c .before .before .before .before .before .pre .0 .few, c .before .before .before .before .before .pre .0 .leads _ (c .before .place-of .ensures .under))
 
 add-s : tie.Need-add-s Inv-loop μ-loop
 add-s c = search needs
@@ -45,7 +45,7 @@ loop-less : tie.Need-loop-less Inv-loop μ-loop
 loop-less c = search needs
 
 loop-again : tie.Need-loop-again Inv-loop μ-loop
-loop-again c = linked-more (c .before .before .before .before .before .pre .0 .few) (c .before .before .before .loop .inv) (c .before .before .loop-test .taken) (rw (c .byte-at .ensures) (c .before .before .before .before .before .pre .0 .leads _ (c .before .cell .ensures .under))) (c .byte-at .ensures ∙ ap (λ (i : ℕ). getD (c .before .before .before .before .before .args .next .now) i 0) (c .before .cell .ensures .is))
+loop-again c = linked-more (c .before .before .before .before .before .pre .0 .few) (c .before .before .before .loop .inv) (c .before .before .loop-test .taken) (rw (c .byte-at .ensures) (c .before .before .before .before .before .pre .0 .leads _ (c .before .place-of .ensures .under))) (c .byte-at .ensures ∙ ap (λ (i : ℕ). getD (c .before .before .before .before .before .args .next .now) i 0) (c .before .place-of .ensures .is))
 
 returns : tie.Need-returns Inv-loop μ-loop
 returns c = linked-end (c .before .loop .inv) (c .loop-test .left)
@@ -57,7 +57,7 @@ invert-spec =
     Inv-loop
     μ-loop
     loop-holds
-    cell-requires
+    place-of-requires
     byte-at-requires
     array-read-link
     array-write-link

@@ -1,5 +1,5 @@
 -- `lands`: the number of the pair that v leads to, against k.
-use Rattle.search.proofs.Cells.{tells-to}
+use Rattle.search.proofs.Places.{tells-to}
 use borrow.Author.Needs.{needs}
 use Rattle.search.proofs.lands.Statement.{statement}
 use Rattle.search.proofs.lands.Tie as tie
@@ -7,12 +7,12 @@ use Rattle.search.proofs.lands.Tie as tie
 next-requires : tie.Need-next-requires
 next-requires c κs = search needs
 
-depth-of-requires : tie.Need-depth-of-requires
-depth-of-requires c κs = search needs
+map-at-requires : tie.Need-map-at-requires
+map-at-requires c κs = search needs
 
 returns : tie.Need-returns
 returns c =
-    tells-to _ _ _ _ _ _ _ _ (c .depth-of .result) (c .before .next .ensures .0) (c .depth-of .ensures)
+    tells-to _ _ _ _ _ _ _ _ (c .map-at .result) (c .before .next .ensures .0) (c .map-at .ensures)
 
 pub lands-spec : {M : Type 1} → statement M
-lands-spec = tie.close (tie.spec next-requires depth-of-requires returns)
+lands-spec = tie.close (tie.spec next-requires map-at-requires returns)

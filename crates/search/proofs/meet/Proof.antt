@@ -1,8 +1,8 @@
 -- `meet`: a walk along the chain of old states; each is met with all new states of the other chain.
 use native.Mathlib.Omega.{arith}
 use Rattle.search.specs.Working.{On}
-use Rattle.search.proofs.Cells.{few-pairs}
-use Rattle.search.proofs.Meets.{met-few, met-open}
+use Rattle.search.proofs.Places.{few-pairs}
+use Rattle.search.proofs.Meets.{met-few, met-writable}
 use Rattle.search.proofs.Chains.{along-inside, along-less}
 use Rattle.search.proofs.Walks.{Passed, passed-start, rows-more, passed-end}
 use borrow.Author.Needs.{needs}
@@ -22,7 +22,7 @@ sub-old : tie.Need-sub-old Inv-loop μ-loop
 sub-old c = search needs
 
 meet-row-requires : tie.Need-meet-row-requires Inv-loop μ-loop
-meet-row-requires c κs = (met-open (c .before .before .before .loop .inv .met) (c .before .before .before .before .before .pre .0), (along-inside (c .before .before .before .before .before .pre .1 .0) (c .before .before .before .loop .inv .along) (c .before .before .loop-test .taken), c .before .before .before .before .before .pre .1 .1))
+meet-row-requires c κs = (met-writable (c .before .before .before .loop .inv .met) (c .before .before .before .before .before .pre .0), (along-inside (c .before .before .before .before .before .pre .1 .0) (c .before .before .before .loop .inv .along) (c .before .before .loop-test .taken), c .before .before .before .before .before .pre .1 .1))
 
 add-fresh : tie.Need-add-fresh Inv-loop μ-loop
 add-fresh c = omega (arith, met-few (c .before .before .before .before .before .before .loop .inv .met), met-few (c .before .before .meet-row .ensures), few-pairs (c .before .before .before .before .before .before .before .before .pre .0 .few))

@@ -4,8 +4,8 @@ use native.Mathlib.Omega.{arith}
 use native.Mathlib.Nat.{le-antisymm}
 use Rattle.machine.proofs.Numbers.{second-pos, pairAt-in}
 use Rattle.search.specs.Working.{Met, Before}
-use Rattle.search.proofs.Cells.{few-pairs}
-use Rattle.search.proofs.Meets.{met-few, met-open}
+use Rattle.search.proofs.Places.{few-pairs}
+use Rattle.search.proofs.Meets.{met-few, met-writable}
 use Rattle.search.proofs.Walks.{before-start, before-more}
 use Rattle.search.proofs.meet_all.Statement.{statement}
 use Rattle.search.proofs.meet_all.Tie as tie
@@ -47,7 +47,7 @@ cast-new-chain : tie.Need-cast-new-chain Inv-loop μ-loop
 cast-new-chain c = omega (arith, c .before .before .before .before .before .before .before .before .pre .1 .1 .1 .each _ (pairAt-in (c .before .before .before .before .before .before .before .before .args .sizes) _ (c .before .before .before .before .before .before .before .before .pre .1 .0 .each _ (c .before .before .before .before .before .loop-test .taken)) .in-new) .begins, c .before .before .before .before .before .before .before .before .pre .0 .few .few-new)
 
 meet-requires : tie.Need-meet-requires Inv-loop μ-loop
-meet-requires c κs = (met-open (c .before .before .before .before .before .before .before .before .before .before .before .before .loop .inv .1) (c .before .before .before .before .before .before .before .before .before .before .before .before .before .before .pre .0), (c .before .before .before .before .before .before .before .before .before .before .before .before .before .before .pre .1 .1 .0 .each _ (pairAt-in (c .before .before .before .before .before .before .before .before .before .before .before .before .before .before .args .sizes) _ (c .before .before .before .before .before .before .before .before .before .before .before .before .before .before .pre .1 .0 .each _ (c .before .before .before .before .before .before .before .before .before .before .before .loop-test .taken)) .in-old), c .before .before .before .before .before .before .before .before .before .before .before .before .before .before .pre .1 .1 .1 .each _ (pairAt-in (c .before .before .before .before .before .before .before .before .before .before .before .before .before .before .args .sizes) _ (c .before .before .before .before .before .before .before .before .before .before .before .before .before .before .pre .1 .0 .each _ (c .before .before .before .before .before .before .before .before .before .before .before .loop-test .taken)) .in-new)))
+meet-requires c κs = (met-writable (c .before .before .before .before .before .before .before .before .before .before .before .before .loop .inv .1) (c .before .before .before .before .before .before .before .before .before .before .before .before .before .before .pre .0), (c .before .before .before .before .before .before .before .before .before .before .before .before .before .before .pre .1 .1 .0 .each _ (pairAt-in (c .before .before .before .before .before .before .before .before .before .before .before .before .before .before .args .sizes) _ (c .before .before .before .before .before .before .before .before .before .before .before .before .before .before .pre .1 .0 .each _ (c .before .before .before .before .before .before .before .before .before .before .before .loop-test .taken)) .in-old), c .before .before .before .before .before .before .before .before .before .before .before .before .before .before .pre .1 .1 .1 .each _ (pairAt-in (c .before .before .before .before .before .before .before .before .before .before .before .before .before .before .args .sizes) _ (c .before .before .before .before .before .before .before .before .before .before .before .before .before .before .pre .1 .0 .each _ (c .before .before .before .before .before .before .before .before .before .before .before .loop-test .taken)) .in-new)))
 
 add-fresh : tie.Need-add-fresh Inv-loop μ-loop
 add-fresh c = omega (arith, met-few (c .before .before .before .before .before .before .before .before .before .before .before .before .before .before .before .loop .inv .1), met-few (c .before .before .meet .ensures), few-pairs (c .before .before .before .before .before .before .before .before .before .before .before .before .before .before .before .before .before .pre .0 .few))

@@ -5,8 +5,8 @@ use native.Mathlib.Omega.{arith}
 use native.Mathlib.Nat.{add-zero}
 use borrow.Author.Needs.{needs}
 use Rattle.search.specs.Working.{On}
-use Rattle.search.proofs.Cells.{few-pairs}
-use Rattle.search.proofs.Meets.{met-one, met-kept, met-few, met-open}
+use Rattle.search.proofs.Places.{few-pairs}
+use Rattle.search.proofs.Meets.{met-one, met-kept, met-few, met-writable}
 use Rattle.search.proofs.Chains.{along-inside, along-less}
 use Rattle.search.proofs.Walks.{Passed, passed-start, row-more, passed-end}
 use Rattle.search.proofs.meet_row.Statement.{statement}
@@ -24,8 +24,8 @@ loop-holds c = passed-start (c .before .pre .1 .1) (λ p s. s .1)
 sub-new : tie.Need-sub-new Inv-loop μ-loop
 sub-new c = search needs
 
-cell-requires : tie.Need-cell-requires Inv-loop μ-loop
-cell-requires c κs = search needs
+place-of-requires : tie.Need-place-of-requires Inv-loop μ-loop
+place-of-requires c κs = search needs
 
 mul-if1 : tie.Need-mul-if1 Inv-loop μ-loop
 mul-if1 c = search needs
@@ -62,8 +62,8 @@ loop-less c = along-less (c .before .before .before .before .before .before .bef
 
 loop-again : tie.Need-loop-again Inv-loop μ-loop
 loop-again c =
-    ⊎-elim (λ w. rw (w .1, w .2, w .3) (row-more (c .before .before .before .before .before .before .before .pre .1 .1) (c .before .before .before .before .before .loop .inv) (c .before .before .before .before .loop-test .taken) (met-one _ _ (c .before .before .before .cell .ensures .is) (record { in-old = c .before .before .before .before .before .before .before .pre .1 .0; in-new = along-inside (c .before .before .before .before .before .before .before .pre .1 .1) (c .before .before .before .before .before .loop .inv .along) (c .before .before .before .before .loop-test .taken) }) (met-open (c .before .before .before .before .before .loop .inv .met) (c .before .before .before .before .before .before .before .pre .0)) (w .0 .taken))))
-    (λ w. rw (w .1, w .2, w .3) (rw (add-zero (c .before .before .before .before .before .loop .fresh)) at (row-more (c .before .before .before .before .before .before .before .pre .1 .1) (c .before .before .before .before .before .loop .inv) (c .before .before .before .before .loop-test .taken) (met-kept _ _ (c .before .before .before .cell .ensures .is) (w .0 .left)))))
+    ⊎-elim (λ w. rw (w .1, w .2, w .3) (row-more (c .before .before .before .before .before .before .before .pre .1 .1) (c .before .before .before .before .before .loop .inv) (c .before .before .before .before .loop-test .taken) (met-one _ _ (c .before .before .before .place-of .ensures .is) (record { in-old = c .before .before .before .before .before .before .before .pre .1 .0; in-new = along-inside (c .before .before .before .before .before .before .before .pre .1 .1) (c .before .before .before .before .before .loop .inv .along) (c .before .before .before .before .loop-test .taken) }) (met-writable (c .before .before .before .before .before .loop .inv .met) (c .before .before .before .before .before .before .before .pre .0)) (w .0 .taken))))
+    (λ w. rw (w .1, w .2, w .3) (rw (add-zero (c .before .before .before .before .before .loop .fresh)) at (row-more (c .before .before .before .before .before .before .before .pre .1 .1) (c .before .before .before .before .before .loop .inv) (c .before .before .before .before .loop-test .taken) (met-kept _ _ (c .before .before .before .place-of .ensures .is) (w .0 .left)))))
     (c .before .if1 .came)
 
 same-length : tie.Need-same-length Inv-loop μ-loop
@@ -80,7 +80,7 @@ meet-row-spec =
     μ-loop
     loop-holds
     sub-new
-    cell-requires
+    place-of-requires
     mul-if1
     slice-read-if1
     add-map

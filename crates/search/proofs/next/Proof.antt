@@ -8,11 +8,11 @@ use borrow.Author.Needs.{needs}
 use Rattle.search.proofs.next.Statement.{statement}
 use Rattle.search.proofs.next.Tie as tie
 
-cell-requires : tie.Need-cell-requires
-cell-requires c κs = search needs
+place-of-requires : tie.Need-place-of-requires
+place-of-requires c κs = search needs
 
-cell-requires-2 : tie.Need-cell-requires-2
-cell-requires-2 c κs = search needs
+place-of-requires-2 : tie.Need-place-of-requires-2
+place-of-requires-2 c κs = search needs
 
 byte-at-requires : tie.Need-byte-at-requires
 byte-at-requires c κs = search needs
@@ -23,10 +23,10 @@ byte-at-requires-2 c κs = search needs
 returns : tie.Need-returns
 returns c =
     let p = c .before .before .before .before .before .before .pre in (
-      same-pair (c .before .byte-at .ensures ∙ ap (λ (i : ℕ). getD (c .before .before .before .before .before .before .args .old-next .now) i 0) (c .before .before .before .cell .ensures .is)) (c .byte-at2 .ensures ∙ ap (λ (i : ℕ). getD (c .before .before .before .before .before .before .args .new-next .now) i 0) (c .before .before .cell2 .ensures .is)),
-      record { in-old = omega (arith, c .before .byte-at .ensures, p .0 .next-old _ (c .before .before .before .cell .ensures .under)); in-new = omega (arith, c .byte-at2 .ensures, p .0 .next-new _ (c .before .before .cell2 .ensures .under)) },
+      same-pair (c .before .byte-at .ensures ∙ ap (λ (i : ℕ). getD (c .before .before .before .before .before .before .args .old-next .now) i 0) (c .before .before .before .place-of .ensures .is)) (c .byte-at2 .ensures ∙ ap (λ (i : ℕ). getD (c .before .before .before .before .before .before .args .new-next .now) i 0) (c .before .before .cell2 .ensures .is)),
+      record { in-old = omega (arith, c .before .byte-at .ensures, p .0 .next-old _ (c .before .before .before .place-of .ensures .under)); in-new = omega (arith, c .byte-at2 .ensures, p .0 .next-new _ (c .before .before .cell2 .ensures .under)) },
     )
 
 pub next-spec : {M : Type 1} → statement M
 next-spec =
-    tie.close (tie.spec cell-requires cell-requires-2 byte-at-requires byte-at-requires-2 returns)
+    tie.close (tie.spec place-of-requires place-of-requires-2 byte-at-requires byte-at-requires-2 returns)

@@ -2,16 +2,16 @@
 use mathlib.Core.Path.{_∙_, ap}
 use Prim.Native.Nat.{ℕ}
 use lib.ListN.{getD}
-use Rattle.search.proofs.Cells.{tells-different}
+use Rattle.search.proofs.Places.{tells-different}
 use borrow.Author.Needs.{needs}
 use Rattle.search.proofs.shows.Statement.{statement}
 use Rattle.search.proofs.shows.Tie as tie
 
-cell-requires : tie.Need-cell-requires
-cell-requires c κs = search needs
+place-of-requires : tie.Need-place-of-requires
+place-of-requires c κs = search needs
 
-cell-requires-2 : tie.Need-cell-requires-2
-cell-requires-2 c κs = search needs
+place-of-requires-2 : tie.Need-place-of-requires-2
+place-of-requires-2 c κs = search needs
 
 byte-at-requires : tie.Need-byte-at-requires
 byte-at-requires c κs = search needs
@@ -21,8 +21,8 @@ byte-at-requires-2 c κs = search needs
 
 returns : tie.Need-returns
 returns c =
-    tells-different _ _ _ _ _ (c .before .byte-at .result) (c .byte-at2 .result) (c .before .byte-at .ensures ∙ ap (λ (i : ℕ). getD (c .before .before .before .before .before .before .args .old-out .now) i 0) (c .before .before .before .cell .ensures .is)) (c .byte-at2 .ensures ∙ ap (λ (i : ℕ). getD (c .before .before .before .before .before .before .args .new-out .now) i 0) (c .before .before .cell2 .ensures .is))
+    tells-different _ _ _ _ _ (c .before .byte-at .result) (c .byte-at2 .result) (c .before .byte-at .ensures ∙ ap (λ (i : ℕ). getD (c .before .before .before .before .before .before .args .old-out .now) i 0) (c .before .before .before .place-of .ensures .is)) (c .byte-at2 .ensures ∙ ap (λ (i : ℕ). getD (c .before .before .before .before .before .before .args .new-out .now) i 0) (c .before .before .cell2 .ensures .is))
 
 pub shows-spec : {M : Type 1} → statement M
 shows-spec =
-    tie.close (tie.spec cell-requires cell-requires-2 byte-at-requires byte-at-requires-2 returns)
+    tie.close (tie.spec place-of-requires place-of-requires-2 byte-at-requires byte-at-requires-2 returns)

@@ -1,7 +1,7 @@
 -- `total`: a product of small numbers.
 use mathlib.Core.Path.{refl}
 use native.Mathlib.Omega.{arith}
-use Rattle.search.proofs.Cells.{few-pairs}
+use Rattle.search.proofs.Places.{few-pairs}
 use Rattle.search.proofs.total.Statement.{statement}
 use Rattle.search.proofs.total.Tie as tie
 

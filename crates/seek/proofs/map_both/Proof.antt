@@ -5,8 +5,8 @@ use borrow.Author.Needs.{needs}
 use Rattle.seek.proofs.map_both.Statement.{statement}
 use Rattle.seek.proofs.map_both.Tie as tie
 
-map-apart-requires : tie.Need-map-apart-requires
-map-apart-requires c κs = search needs
+map-traces-requires : tie.Need-map-traces-requires
+map-traces-requires c κs = search needs
 
 total-requires : tie.Need-total-requires
 total-requires c κs = search needs
@@ -26,13 +26,13 @@ same-length-2 c = search needs
 
 returns : tie.Need-returns
 returns c =
-    (record { apart = c .before .before .before .before .before .before .before .before .before .before .before .before .map-apart .ensures .complete; alike = map-alike _ (c .before .before .before .before .before .before .before .before .before .before .before .before .before .before .before .before .before .before .before .before .pre .0) (c .before .before .before .before .before .before .before .before .before .before .before .before .map-apart .ensures .complete) (rw (c .before .before .before .before .before .before .before .before .before .total .ensures .0) at (c .before .before .before .before .before .before .aligned-start .ensures)) (c .before .before .search .ensures .0) .complete }, c .before .before .search .ensures .1)
+    (record { traces = c .before .before .before .before .before .before .before .before .before .before .before .before .map-traces .ensures .complete; alike = map-alike _ (c .before .before .before .before .before .before .before .before .before .before .before .before .before .before .before .before .before .before .before .before .pre .0) (c .before .before .before .before .before .before .before .before .before .before .before .before .map-traces .ensures .complete) (rw (c .before .before .before .before .before .before .before .before .before .total .ensures .0) at (c .before .before .before .before .before .before .aligned-start .ensures)) (c .before .before .search .ensures .0) .complete }, c .before .before .search .ensures .1)
 
 pub map-both-spec : {M : Type 1} → statement M
 map-both-spec =
     tie.close
     (tie.spec
-    map-apart-requires
+    map-traces-requires
     total-requires
     aligned-start-requires
     search-requires

@@ -32,7 +32,7 @@ pub record MapOf (t : Tables) (Goal : Pair → Type 0) (d : List ℕ) (r : ℕ) 
   pub first : FirstStill (stepIn t) (Ok (t .sizes)) Goal (In (t .sizes)) r
 
 pub record Both (t : Tables) (depth reach : List ℕ) : Type 0 where
-  pub apart : MapFor t (DiffersIn t) depth
+  pub traces : MapFor t (DiffersIn t) depth
   pub alike : MapFor t (AlikeIn t) reach
 
 abbrev pub ListTo : Sizes → List ℕ → List ℕ → List ℕ → Prior → Pair → List ℕ → Type 0

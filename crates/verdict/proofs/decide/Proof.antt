@@ -13,7 +13,7 @@ pair-at-requires c κs = omega (arith, c .if1 .taken, c .before .total .ensures 
 
 find-trace-requires : tie.Need-find-trace-requires
 find-trace-requires c κs =
-    (c .before .before .before .before .before .before .before .before .before .before .before .pre .0 .good, (c .before .before .before .before .before .before .before .before .before .before .before .pre .0 .depth-room, (c .before .before .before .before .before .before .before .before .before .before .before .pre .0 .both .apart, (apart-of _ (c .before .before .before .before .before .before .before .before .before .before .before .pre .0) (c .before .before .before .before .before .before .before .before .before .before .before .pre .1 .0) (c .before .pair-at .ensures .0) (omega (arith, c .before .before .if1 .taken, c .before .before .before .total .ensures .0))) .inside)))
+    (c .before .before .before .before .before .before .before .before .before .before .before .pre .0 .good, (c .before .before .before .before .before .before .before .before .before .before .before .pre .0 .depth-room, (c .before .before .before .before .before .before .before .before .before .before .before .pre .0 .both .traces, (apart-of _ (c .before .before .before .before .before .before .before .before .before .before .before .pre .0) (c .before .before .before .before .before .before .before .before .before .before .before .pre .1 .0) (c .before .pair-at .ensures .0) (omega (arith, c .before .before .if1 .taken, c .before .before .before .total .ensures .0))) .inside)))
 
 enum-known-found : tie.Need-enum-known-found
 enum-known-found c = search needs

@@ -44,7 +44,7 @@ shared-slice-read-if3 c =
 
 returns : tie.Need-returns Inv-loop μ-loop
 returns c =
-    scan-found (c .before .before .before .before .before .before .loop .inv) (omega (arith, c .before .before .before .before .before .before .before .total .ensures .0, c .before .before .before .before .before .loop-test .taken)) (record { mark0 = rw (c .before .before .before .before .pair-at .ensures .0) at (c .before .before .before .if1 .taken); mark1 = rw (c .before .before .before .before .pair-at .ensures .0) at (c .before .before .if2 .taken); apart = c .if3 .taken })
+    scan-found (c .before .before .before .before .before .before .loop .inv) (omega (arith, c .before .before .before .before .before .before .before .total .ensures .0, c .before .before .before .before .before .loop-test .taken)) (record { mark0 = rw (c .before .before .before .before .pair-at .ensures .0) at (c .before .before .before .if1 .taken); mark1 = rw (c .before .before .before .before .pair-at .ensures .0) at (c .before .before .if2 .taken); unlike = c .if3 .taken })
 
 add-i : tie.Need-add-i Inv-loop μ-loop
 add-i c =
@@ -56,7 +56,7 @@ loop-less c =
 
 loop-again : tie.Need-loop-again Inv-loop μ-loop
 loop-again c =
-    scan-more (c .before .before .before .loop .inv) (omega (arith, c .before .before .before .before .total .ensures .0, c .before .before .loop-test .taken)) (λ o. ⊎-elim (λ w. o .apart (w .3 .left)) (λ r. ⊎-elim (λ w. false≢true (sym (rw (c .before .pair-at .ensures .0) at (w .1 .left)) ∙ o .mark1)) (λ w. false≢true (sym (rw (c .before .pair-at .ensures .0) at (w .left)) ∙ o .mark0)) r) (c .if1 .came))
+    scan-more (c .before .before .before .loop .inv) (omega (arith, c .before .before .before .before .total .ensures .0, c .before .before .loop-test .taken)) (λ o. ⊎-elim (λ w. o .unlike (w .3 .left)) (λ r. ⊎-elim (λ w. false≢true (sym (rw (c .before .pair-at .ensures .0) at (w .1 .left)) ∙ o .mark1)) (λ w. false≢true (sym (rw (c .before .pair-at .ensures .0) at (w .left)) ∙ o .mark0)) r) (c .if1 .came))
 
 returns-2 : tie.Need-returns-2 Inv-loop μ-loop
 returns-2 c = scan-none (c .before .loop .inv) (omega (arith, c .before .before .total .ensures .0, c .loop-test .left))

@@ -1,7 +1,7 @@
--- `open_map`: the lengths are taken before the slices are cleared.
+-- `begin_map`: the lengths are taken before the slices are cleared.
 use borrow.Author.Needs.{needs}
-use Rattle.engine.proofs.open_map.Statement.{statement}
-use Rattle.engine.proofs.open_map.Tie as tie
+use Rattle.engine.proofs.begin_map.Statement.{statement}
+use Rattle.engine.proofs.begin_map.Tie as tie
 
 shorter-requires : tie.Need-shorter-requires
 shorter-requires c κs = search needs
@@ -27,8 +27,8 @@ same-length-3 c = search needs
 returns : tie.Need-returns
 returns c = (rw (c .before .before .before .before .before .before .before .before .before .before .before .shorter2 .ensures, c .before .before .before .before .before .before .before .before .before .before .before .before .shorter .ensures) at (c .before .before .before .before .before .before .before .before .before .before .call-fault .ensures), c .before .before .before .before .before .before .clear-lent .ensures)
 
-pub open-map-spec : {M : Type 1} → statement M
-open-map-spec =
+pub begin-map-spec : {M : Type 1} → statement M
+begin-map-spec =
     tie.close
     (tie.spec
     shorter-requires

@@ -1,7 +1,7 @@
--- `open_pair`: the lengths are taken before the slices are cleared.
+-- `begin_pair`: the lengths are taken before the slices are cleared.
 use borrow.Author.Needs.{needs}
-use Rattle.engine.proofs.open_pair.Statement.{statement}
-use Rattle.engine.proofs.open_pair.Tie as tie
+use Rattle.engine.proofs.begin_pair.Statement.{statement}
+use Rattle.engine.proofs.begin_pair.Tie as tie
 
 shorter-requires : tie.Need-shorter-requires
 shorter-requires c κs = search needs
@@ -24,8 +24,8 @@ same-length-3 c = search needs
 returns : tie.Need-returns
 returns c = (rw (c .before .before .before .before .before .before .before .before .before .before .before .shorter .ensures) at (c .before .before .before .before .before .before .before .before .before .before .pair-fault .ensures), c .before .before .before .before .before .before .clear-lent .ensures)
 
-pub open-pair-spec : {M : Type 1} → statement M
-open-pair-spec =
+pub begin-pair-spec : {M : Type 1} → statement M
+begin-pair-spec =
     tie.close
     (tie.spec
     shorter-requires

@@ -1,9 +1,9 @@
--- `map_apart`: the search from the pairs that show different outputs.
+-- `map_traces`: the search from the pairs that show different outputs.
 use native.Mathlib.Omega.{arith}
-use Rattle.seek.proofs.Sets.{map-apart, flag-one}
+use Rattle.seek.proofs.Sets.{map-traces, flag-one}
 use borrow.Author.Needs.{needs}
-use Rattle.seek.proofs.map_apart.Statement.{statement}
-use Rattle.seek.proofs.map_apart.Tie as tie
+use Rattle.seek.proofs.map_traces.Statement.{statement}
+use Rattle.seek.proofs.map_traces.Tie as tie
 
 differ-requires : tie.Need-differ-requires
 differ-requires c κs = search needs
@@ -17,7 +17,7 @@ same-length c = search needs
 
 returns : tie.Need-returns
 returns c =
-    map-apart _ (c .before .before .before .before .before .before .before .before .before .before .before .before .before .pre .0) (c .before .before .before .before .before .before .differ .ensures) (c .before .before .search .ensures .0)
+    map-traces _ (c .before .before .before .before .before .before .before .before .before .before .before .before .before .pre .0) (c .before .before .before .before .before .before .differ .ensures) (c .before .before .search .ensures .0)
 
-pub map-apart-spec : {M : Type 1} → statement M
-map-apart-spec = tie.close (tie.spec differ-requires search-requires same-length returns)
+pub map-traces-spec : {M : Type 1} → statement M
+map-traces-spec = tie.close (tie.spec differ-requires search-requires same-length returns)

@@ -1,8 +1,8 @@
--- `depth_at`: a 16-bit number fits a number.
+-- `number_at`: a 16-bit number fits a number.
 use native.Mathlib.Omega.{arith}
 use borrow.Author.Needs.{needs}
-use Rattle.search.proofs.depth_at.Statement.{statement}
-use Rattle.search.proofs.depth_at.Tie as tie
+use Rattle.search.proofs.number_at.Statement.{statement}
+use Rattle.search.proofs.number_at.Tie as tie
 
 mul-result : tie.Need-mul-result
 mul-result c = search needs
@@ -16,5 +16,5 @@ cast-result c = omega (arith, c .shared-slice-known .given (c .before .args .i))
 returns : tie.Need-returns
 returns c = search needs
 
-pub depth-at-spec : {M : Type 1} → statement M
-depth-at-spec = tie.close (tie.spec mul-result shared-slice-read-result cast-result returns)
+pub number-at-spec : {M : Type 1} → statement M
+number-at-spec = tie.close (tie.spec mul-result shared-slice-read-result cast-result returns)
