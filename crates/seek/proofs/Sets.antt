@@ -14,7 +14,7 @@ use Rattle.machine.proofs.Lists.{complete-there, still-first-there}
 use Rattle.machine.proofs.Telling.{alike-at-zero, zero-at-alike}
 use Rattle.search.specs.Working.{Flagged, Ones, DiffersAt, Searched}
 use Rattle.machine.proofs.Numbers.{number-in, pair-number}
-use Rattle.search.proofs.Cells.{closed}
+use Rattle.search.proofs.Places.{closed}
 use Rattle.seek.specs.Working.Steps.{Good, MapFor, MapOf}
 
 pub flag-one : {P : Type 0} {x : ℕ} → Flag P x → x ≤ 1

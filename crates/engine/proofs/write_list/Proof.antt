@@ -9,7 +9,7 @@ map-both-requires c κs = search needs
 
 find-list-requires : tie.Need-find-list-requires
 find-list-requires c κs =
-    (record { nexts = c .before .before .before .before .before .before .before .before .before .before .before .before .before .before .before .before .pre .0 .nexts; room = search needs }, (ready _ (c .before .before .before .before .before .before .before .before .before .before .before .before .before .before .before .before .pre .0) (c .before .before .before .before .before .before .map-both .ensures .alike), c .before .before .before .before .before .before .before .before .before .before .before .before .before .before .before .before .pre .1 .1))
+    (record { nexts = c .before .before .before .before .before .before .before .before .before .before .before .before .before .before .before .before .pre .0 .nexts; room = search needs }, (ready _ (c .before .before .before .before .before .before .before .before .before .before .before .before .before .before .before .before .pre .0) (c .before .before .before .before .before .before .map-both .ensures .0 .alike), c .before .before .before .before .before .before .before .before .before .before .before .before .before .before .before .before .pre .1 .1))
 
 clear-scratch-requires : tie.Need-clear-scratch-requires
 clear-scratch-requires c κs = search needs
@@ -24,7 +24,7 @@ same-length-3 : tie.Need-same-length-3
 same-length-3 c = search needs
 
 returns : tie.Need-returns
-returns c = (outcome _ (c .before .before .before .before .before .before .before .before .before .before .before .before .before .before .before .before .before .before .before .before .before .before .before .before .before .before .pre .0) (c .before .before .before .before .before .before .before .before .before .before .before .before .before .before .before .before .map-both .ensures .alike) _ (c .before .before .before .before .before .before .before .before .before .before .before .before .before .before .before .before .before .before .before .before .before .before .before .before .before .before .pre .1 .1) (c .before .before .before .before .before .before .before .before .before .find-list .ensures), (search needs, search needs))
+returns c = (outcome _ (c .before .before .before .before .before .before .before .before .before .before .before .before .before .before .before .before .before .before .before .before .before .before .before .before .before .before .pre .0) (c .before .before .before .before .before .before .before .before .before .before .before .before .before .before .before .before .map-both .ensures .0 .alike) _ (c .before .before .before .before .before .before .before .before .before .before .before .before .before .before .before .before .before .before .before .before .before .before .before .before .before .before .pre .1 .1) (c .before .before .before .before .before .before .before .before .before .find-list .ensures), (search needs, search needs))
 
 pub write-list-spec : {M : Type 1} → statement M
 write-list-spec =

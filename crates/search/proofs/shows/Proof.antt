@@ -21,7 +21,7 @@ byte-at-requires-2 c κs = search needs
 
 returns : tie.Need-returns
 returns c =
-    tells-different _ _ _ _ _ (c .before .byte-at .result) (c .byte-at2 .result) (c .before .byte-at .ensures ∙ ap (λ (i : ℕ). getD (c .before .before .before .before .before .before .args .old-out .now) i 0) (c .before .before .before .place-of .ensures .is)) (c .byte-at2 .ensures ∙ ap (λ (i : ℕ). getD (c .before .before .before .before .before .before .args .new-out .now) i 0) (c .before .before .cell2 .ensures .is))
+    tells-different _ _ _ _ _ (c .before .byte-at .result) (c .byte-at2 .result) (c .before .byte-at .ensures ∙ ap (λ (i : ℕ). getD (c .before .before .before .before .before .before .args .old-out .now) i 0) (c .before .before .before .place-of .ensures .is)) (c .byte-at2 .ensures ∙ ap (λ (i : ℕ). getD (c .before .before .before .before .before .before .args .new-out .now) i 0) (c .before .before .place-of2 .ensures .is))
 
 pub shows-spec : {M : Type 1} → statement M
 shows-spec =

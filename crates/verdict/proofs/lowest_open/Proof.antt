@@ -5,7 +5,7 @@ use Prim.Native.Nat.{_-_}
 use mathlib.Core.Logic.{⊎-elim}
 use mathlib.Core.Bool.{false≢true}
 use Rattle.search.specs.Working.{NoneBelow}
-use Rattle.search.proofs.Cells.{scan-start, scan-more, scan-found, scan-none}
+use Rattle.search.proofs.Places.{scan-start, scan-more, scan-found, scan-none}
 use Rattle.machine.specs.Meaning.Tables.{pairs}
 use Rattle.verdict.specs.Working.Deciding.{OpenAt}
 use Rattle.verdict.proofs.lowest_open.Statement.{statement}
