@@ -329,7 +329,7 @@ def on_one(call, design, numbers):
 
 
 DESIGNS = {"compare": 2, "tabulate_both": 2, "tabulate": 1, "write": 1, "clock": 1, "fault_of": 1}
-OTHERS = ["length_of", "read", "limits", "map_alike", "map_alignable", "trace_of", "list_of", "judge"]
+OTHERS = ["length_of", "read", "map_alike", "map_alignable", "trace_of", "list_of", "judge"]
 
 
 def design_of(words):
@@ -356,8 +356,6 @@ def answer(line):
         raise NoQuestion(SPELLED_WRONG)
     if call not in DESIGNS and call not in OTHERS:
         raise NoQuestion("no such call")
-    if call == "limits":
-        return "inputs 6 flip-flops 7 outputs 8 cells 256 bytes 692"
     if call == "length_of":
         faults, _, size = header(data)
         return f"refused {faults[0]}" if faults else f"bytes {size}"

@@ -5,7 +5,6 @@ use image::Answer;
 use image::Length;
 use image::Reading;
 use machine::Found;
-use netlist::Limits;
 use simulator::Clocked;
 use simulator::Tabulated;
 use simulator::TabulatedBoth;
@@ -121,14 +120,6 @@ pub(crate) fn judged(r: Judged) {
     item(b" alignable ", r.alignable);
 }
 
-pub(crate) fn limits(l: Limits) {
-    item(b"inputs ", l.inputs);
-    item(b" flip-flops ", l.latches);
-    item(b" outputs ", l.outputs);
-    item(b" cells ", l.cells);
-    item(b" bytes ", l.bytes);
-}
-
 // A run of one value, how many runs there were with it, and the sum of all entries.
 struct Run {
     value: u64,
@@ -144,6 +135,18 @@ const START: u64 = 65537;
 
 // How many runs of a slice are shown.
 const MOST_RUNS: u64 = 64;
+
+// Shows the two slices of a table.
+pub(crate) fn table(next: &[u8], out: &[u8]) {
+    bytes(next, false);
+    bytes(out, false);
+}
+
+// Shows both scratch slices.
+pub(crate) fn scratch(depth: &[u16], reach: &[u16]) {
+    numbers(depth);
+    numbers(reach);
+}
 
 // Shows a slice of bytes.
 pub(crate) fn bytes(list: &[u8], hex: bool) {
