@@ -148,9 +148,12 @@ pub(crate) fn scratch(depth: &[u16], reach: &[u16]) {
     numbers(reach);
 }
 
-// Shows a slice of bytes.
+// Shows a slice of bytes, an x before those in hexadecimal.
 pub(crate) fn bytes(list: &[u8], hex: bool) {
     io::write_all(1, b" | ");
+    if hex {
+        io::write_all(1, b"x");
+    }
     let mut run = no_run();
     let mut i = 0;
     while i < list.len() {
@@ -225,7 +228,7 @@ fn show_run(run: Run, hex: bool) {
 // Shows that there was no entry, or the sum where there were more runs than are shown.
 fn show_end(run: Run) {
     if run.runs == 0 {
-        io::write_all(1, b"0*0");
+        io::write_all(1, b"00*0");
     }
     if run.runs > MOST_RUNS {
         io::write_all(1, b",.. sum ");
