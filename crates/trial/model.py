@@ -29,7 +29,7 @@ def entries(word, most, kind):
     if word == "x":
         return []
     for item in re.split("[,/]", word[hexadecimal:]):
-        spelled = re.fullmatch(r"((?:[0-9A-F]{2})+)(?:\*(\d+))?" if hexadecimal else r"(\d+)(?:\*(\d+))?", item)
+        spelled = re.fullmatch(r"((?:[0-9A-Fa-f]{2})+)(?:\*(\d+))?" if hexadecimal else r"(\d+)(?:\*(\d+))?", item)
         if not spelled:
             raise NoQuestion(SPELLED_WRONG)
         found = [int(pair, 16) for pair in re.findall("..", spelled[1])] if hexadecimal else [int(spelled[1])]
@@ -39,7 +39,7 @@ def entries(word, most, kind):
     return numbers
 
 
-def short(numbers, spell=str):
+def short(numbers, spell=str, before=""):
     """A slice with runs of one value in short; of more than 64 runs the first 64, and a sum of all entries."""
     runs = []
     for number in numbers:
@@ -47,13 +47,13 @@ def short(numbers, spell=str):
             runs[-1][1] += 1
         else:
             runs.append([number, 1])
-    text = ",".join(spell(value) + (f"*{times}" if times > 1 else "") for value, times in runs[:64]) or "0*0"
+    text = ",".join(spell(value) + (f"*{times}" if times > 1 else "") for value, times in runs[:64]) or "00*0"
     if len(runs) > 64:
         total = 0
         for number in numbers:
             total = (total * 31 + number) % 1000000007
         text += f",.. sum {total}"
-    return " | " + text
+    return " | " + before + text
 
 
 # Designs and images.
@@ -325,11 +325,11 @@ def on_one(call, design, numbers):
     if not faults and len(image) > numbers[1]:
         faults, image = [12], []
     said = f"refused {faults[0]}" if faults else f"bytes {len(image)}"
-    return said + short(filled(image, numbers[1]), lambda byte: f"{byte:02x}")
+    return said + short(filled(image, numbers[1]), lambda byte: f"{byte:02x}", "x")
 
 
 DESIGNS = {"compare": 2, "tabulate_both": 2, "tabulate": 1, "write": 1, "clock": 1, "fault_of": 1}
-OTHERS = ["length_of", "read", "limits", "map_alike", "map_alignable", "trace_of", "list_of", "judge"]
+OTHERS = ["length_of", "read", "map_alike", "map_alignable", "trace_of", "list_of", "judge"]
 
 
 def design_of(words):
@@ -356,8 +356,6 @@ def answer(line):
         raise NoQuestion(SPELLED_WRONG)
     if call not in DESIGNS and call not in OTHERS:
         raise NoQuestion("no such call")
-    if call == "limits":
-        return "inputs 6 flip-flops 7 outputs 8 cells 256 bytes 692"
     if call == "length_of":
         faults, _, size = header(data)
         return f"refused {faults[0]}" if faults else f"bytes {size}"

@@ -1,16 +1,39 @@
-// Puts questions to the public calls, and prints what each answers and what the slices that were lent to it hold then.
+// Puts questions to the public calls, and prints what each answers and what the slices that it writes hold then. Standard input has a
+// question a line; an empty line and one that begins with # are repeated. A question is the name of a call and then, each behind a space,
+//
+//   the designs that it takes,
+//   a list of numbers,
+//   the bytes that it reads.
+//
+// A list has a comma or a slash between two entries, and v*n stands for n entries v. Behind an x it is of bytes in hexadecimal, two digits
+// each, and between these no comma is needed. A design is its image behind an x; or a list, sound or not, of all that stands in memory: its
+// four sizes, 7 nets read by flip-flops, 8 shown as outputs, and a kind and two nets for each cell. What a list leaves out at its end is 0.
+//
+//   length_of x111100008060                 the image
+//   read x111100008060
+//   fault_of 1,1,1,0/2,0*6/3                P in memory
+//   clock x111100008060 0,1                 the state and the vector
+//   write x111100008060 7/6                 what the slices hold at entry, and the length of each, in the order of the call
+//   tabulate x111100008060 7/4,4
+//   tabulate_both x111100008060 x111100008040 7/4,4,4,4
+//   compare x111100008060 x111100008040 7/4,4,4,4/4,4,1
+//   map_alike 7/4,4,4,4/4,4,4/2,2,2 0,1,0,1/0,0,1,1/0,1,0,1/0,1,0,1
+//   trace_of 7/4,4,4,4/4,4,1/2,2,2/0,1 0,1,0,1/0,0,1,1/0,1,0,1/0,1,0,1
+//
+// map_alignable and judge are asked as map_alike is, list_of as trace_of: behind the lengths stand S of the old design, S of the new, V,
+// and the pair; the bytes are the four tables. An answer shows each written slice behind a bar, as a list; of one with more than 64 runs of
+// one value the first 64 runs, and a sum in which an entry counts by where it stands.
 mod calls;
 mod designs;
 mod show;
 mod slices;
 mod words;
 
-ghost use Prim.Native.Nat.{_≤_, _<_};
+ghost use Prim.Native.Nat.{_≤_};
 ghost use lib.ListN.{length};
 use machine::Pair;
 use machine::Sizes;
 use netlist::Design;
-use netlist::Image;
 
 // The most bytes of all lines, entries of a slice that is written, bytes of a list that is read, and numbers of a question.
 const LINES: usize = 262144;
@@ -24,7 +47,7 @@ const NUMBERS: usize = 13;
 fn main() {
     let mut all = [0u8; LINES];
     let n = io::read_full(0, &mut all);
-    ask_all(&all[..n]);
+    ask_all(slices::cut(&all, 0, n));
 }
 
 // Goes through the lines.
@@ -65,7 +88,7 @@ fn ask(line: &[u8]) {
 fn ask_call(line: &[u8]) {
     let end = find(line, 0, b' ');
     let call = calls::call_of(
-        b" compare tabulate_both tabulate write clock fault_of length_of read limits map_alike map_alignable trace_of list_of judge ",
+        b" compare tabulate_both tabulate write clock fault_of length_of read map_alike map_alignable trace_of list_of judge ",
         slices::cut(line, 0, end),
     );
     let old = designs::drawn_at(line, end, call <= calls::FAULT_OF);
@@ -94,7 +117,6 @@ fn answer(call: usize, old: Design, new: Design, n: [u16; NUMBERS], bytes: &[u8]
         calls::FAULT_OF => show::item(b"fault ", order::fault_of(old) as usize),
         calls::LENGTH_OF => show::measured(image::length_of(bytes)),
         calls::READ => show::reading(image::read(bytes)),
-        calls::LIMITS => show::limits(Image::limits()),
         calls::MAP_ALIKE..=calls::JUDGE => ask_tables(call, n, bytes),
         _ => show::word(b"NO QUESTION: no such call"),
     }
@@ -130,6 +152,7 @@ fn wide(n: u16) -> usize
 }
 
 fn ask_compare(old: Design, new: Design, n: [u16; NUMBERS]) {
+    let lengths = lengths_of(n);
     let held = designs::low(n[0]);
     let mut next0 = [held; SLICE];
     let mut out0 = [held; SLICE];
@@ -138,7 +161,6 @@ fn ask_compare(old: Design, new: Design, n: [u16; NUMBERS]) {
     let mut depth = [n[0]; SLICE];
     let mut reach = [n[0]; SLICE];
     let mut list = [held; SLICE];
-    let lengths = lengths_of(n);
     let next0 = slices::bytes(&mut next0, lengths.a);
     let out0 = slices::bytes(&mut out0, lengths.b);
     let next1 = slices::bytes(&mut next1, lengths.c);
@@ -148,49 +170,45 @@ fn ask_compare(old: Design, new: Design, n: [u16; NUMBERS]) {
     let list = slices::bytes(&mut list, lengths.g);
     let judged = compare::compare(old, new, next0, out0, next1, out1, depth, reach, list);
     show::judged(judged);
-    show::bytes(next0, false);
-    show::bytes(out0, false);
-    show::bytes(next1, false);
-    show::bytes(out1, false);
-    show::numbers(depth);
-    show::numbers(reach);
+    show::table(next0, out0);
+    show::table(next1, out1);
+    show::scratch(depth, reach);
     show::bytes(list, false);
 }
 
 fn ask_tabulate_both(old: Design, new: Design, n: [u16; NUMBERS]) {
+    let lengths = lengths_of(n);
     let held = designs::low(n[0]);
     let mut next0 = [held; SLICE];
     let mut out0 = [held; SLICE];
     let mut next1 = [held; SLICE];
     let mut out1 = [held; SLICE];
-    let lengths = lengths_of(n);
     let next0 = slices::bytes(&mut next0, lengths.a);
     let out0 = slices::bytes(&mut out0, lengths.b);
     let next1 = slices::bytes(&mut next1, lengths.c);
     let out1 = slices::bytes(&mut out1, lengths.d);
     let tabulated = simulator::tabulate_both(old, new, next0, out0, next1, out1);
     show::tabulated_both(tabulated);
-    show::bytes(next0, false);
-    show::bytes(out0, false);
-    show::bytes(next1, false);
-    show::bytes(out1, false);
+    show::table(next0, out0);
+    show::table(next1, out1);
 }
 
 fn ask_tabulate(design: Design, n: [u16; NUMBERS]) {
+    let lengths = lengths_of(n);
     let held = designs::low(n[0]);
     let mut next = [held; SLICE];
     let mut out = [held; SLICE];
-    let next = slices::bytes(&mut next, wide(n[1]));
-    let out = slices::bytes(&mut out, wide(n[2]));
+    let next = slices::bytes(&mut next, lengths.a);
+    let out = slices::bytes(&mut out, lengths.b);
     let tabulated = simulator::tabulate(design, next, out);
     show::tabulated(tabulated);
-    show::bytes(next, false);
-    show::bytes(out, false);
+    show::table(next, out);
 }
 
 fn ask_write(design: Design, n: [u16; NUMBERS]) {
+    let length = wide(n[1]);
     let mut image = [designs::low(n[0]); SLICE];
-    let image = slices::bytes(&mut image, wide(n[1]));
+    let image = slices::bytes(&mut image, length);
     let written = writer::write(design, image);
     show::written(written);
     show::bytes(image, true);
@@ -223,21 +241,16 @@ fn ask_tables(call: usize, n: [u16; NUMBERS], bytes: &[u8]) {
 
 // Lends scratch and a mark or list slice beside tables.
 fn lend(call: usize, n: [u16; NUMBERS], next0: &[u8], out0: &[u8], next1: &[u8], out1: &[u8]) {
+    let lengths = lengths_of(n);
+    let sizes = sizes_of(n);
+    let pair = pair_of(n);
+    let held = designs::low(n[0]);
     let mut depth = [n[0]; SLICE];
     let mut reach = [n[0]; SLICE];
-    let mut list = [designs::low(n[0]); SLICE];
-    let depth = slices::numbers(&mut depth, wide(n[5]));
-    let reach = slices::numbers(&mut reach, wide(n[6]));
-    let list = slices::bytes(&mut list, wide(n[7]));
-    let sizes = Sizes {
-        old: wide(n[8]),
-        new: wide(n[9]),
-        vectors: wide(n[10]),
-    };
-    let pair = Pair {
-        old: wide(n[11]),
-        new: wide(n[12]),
-    };
+    let mut list = [held; SLICE];
+    let depth = slices::numbers(&mut depth, lengths.e);
+    let reach = slices::numbers(&mut reach, lengths.f);
+    let list = slices::bytes(&mut list, lengths.g);
     answer_tables(
         call,
         next0,
@@ -250,9 +263,23 @@ fn lend(call: usize, n: [u16; NUMBERS], next0: &[u8], out0: &[u8], next1: &[u8],
         reach,
         list,
     );
-    show::numbers(depth);
-    show::numbers(reach);
+    show::scratch(depth, reach);
     show::bytes(list, false);
+}
+
+fn sizes_of(n: [u16; NUMBERS]) -> Sizes {
+    Sizes {
+        old: wide(n[8]),
+        new: wide(n[9]),
+        vectors: wide(n[10]),
+    }
+}
+
+fn pair_of(n: [u16; NUMBERS]) -> Pair {
+    Pair {
+        old: wide(n[11]),
+        new: wide(n[12]),
+    }
 }
 
 // Puts a question on tables.

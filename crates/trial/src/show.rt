@@ -5,7 +5,6 @@ use image::Answer;
 use image::Length;
 use image::Reading;
 use machine::Found;
-use netlist::Limits;
 use simulator::Clocked;
 use simulator::Tabulated;
 use simulator::TabulatedBoth;
@@ -121,14 +120,6 @@ pub(crate) fn judged(r: Judged) {
     item(b" alignable ", r.alignable);
 }
 
-pub(crate) fn limits(l: Limits) {
-    item(b"inputs ", l.inputs);
-    item(b" flip-flops ", l.latches);
-    item(b" outputs ", l.outputs);
-    item(b" cells ", l.cells);
-    item(b" bytes ", l.bytes);
-}
-
 // A run of one value, how many runs there were with it, and the sum of all entries.
 struct Run {
     value: u64,
@@ -145,9 +136,24 @@ const START: u64 = 65537;
 // How many runs of a slice are shown.
 const MOST_RUNS: u64 = 64;
 
-// Shows a slice of bytes.
+// Shows the two slices of a table.
+pub(crate) fn table(next: &[u8], out: &[u8]) {
+    bytes(next, false);
+    bytes(out, false);
+}
+
+// Shows both scratch slices.
+pub(crate) fn scratch(depth: &[u16], reach: &[u16]) {
+    numbers(depth);
+    numbers(reach);
+}
+
+// Shows a slice of bytes, an x before those in hexadecimal.
 pub(crate) fn bytes(list: &[u8], hex: bool) {
     io::write_all(1, b" | ");
+    if hex {
+        io::write_all(1, b"x");
+    }
     let mut run = no_run();
     let mut i = 0;
     while i < list.len() {
@@ -222,7 +228,7 @@ fn show_run(run: Run, hex: bool) {
 // Shows that there was no entry, or the sum where there were more runs than are shown.
 fn show_end(run: Run) {
     if run.runs == 0 {
-        io::write_all(1, b"0*0");
+        io::write_all(1, b"00*0");
     }
     if run.runs > MOST_RUNS {
         io::write_all(1, b",.. sum ");

@@ -230,6 +230,7 @@ fn digit(c: u8) -> usize
     match c {
         b'0'..=b'9' => (c - b'0') as usize,
         b'A'..=b'F' => (c - b'A') as usize + 10,
+        b'a'..=b'f' => (c - b'a') as usize + 10,
         _ => 16,
     }
 }
