@@ -1,11 +1,11 @@
 // Designs: an image in hexadecimal, or a list of all that stands in memory.
 use crate::slices;
 use crate::words;
+use format::Layout;
 use image::Answer;
 use netlist::Cell;
 use netlist::Design;
 use netlist::Gate;
-use format::Layout;
 use netlist::Image;
 
 // Where the cells stand in such a list, behind 4 sizes, 7 nets of flip-flops and 8 of outputs; and how many numbers it has.
