@@ -9,8 +9,8 @@ ghost use Prim.Native.Nat.{_+_, _≤_};
 ghost use lib.ListN.{length};
 ghost use Rattle.converter.specs.Meaning.Output.{mostText};
 use converter::Text;
-use format::Layout;
 use image::Answer;
+use limits::Image;
 use netlist::Design;
 use streams::Input;
 use writer::Written;
@@ -90,7 +90,7 @@ fn show_reading(text: &[u8]) {
 fn show_output(room: &[u8], n: usize)
     requires { ⌜ (length (now room) ≡ mostText + 1) × (n ≤ length (now room)) ⌝ }
 {
-    let mut out = [165u8; Layout::MOST_BYTES];
+    let mut out = [165u8; Image::MOST_BYTES];
     let sent = converter::answer(room, Input::Read(n), &mut out);
     let length = sent.length;
     io::print_decimal(1, sent.stream as u64);
@@ -105,7 +105,7 @@ fn show_output(room: &[u8], n: usize)
 
 // Prints the image of a design, written into a slice that held other things.
 fn show(d: Design) {
-    let mut image = [165u8; Layout::MOST_BYTES];
+    let mut image = [165u8; Image::MOST_BYTES];
     match writer::write(d, &mut image) {
         Written::Bytes(n) => show_bytes(&image, n),
         Written::Refused(number) => {

@@ -8,8 +8,8 @@ use lib.ListN.{length, getD, take, drop, length-drop}
 use lib.Seq.{getD-take, getD-drop, take-take, take-all, length-take-le}
 use Rattle.numbers.specs.Meaning.Bits.{bitOf}
 use Rattle.memory.specs.Meaning.Refusals.{Free, First}
-use Rattle.format.specs.Meaning.Layout.{mostBytes}
-use Rattle.format.proofs.Sizes.{bytes-le-most}
+use Rattle.limits.specs.Meaning.Layout.{mostBytes}
+use Rattle.limits.proofs.Sizes.{bytes-le-most}
 use Rattle.reader.specs.Meaning.Fields.{bitAt}
 use Rattle.format.specs.Meaning.Format.{latchesIn, outputsIn, countIn, bytesIn}
 use Rattle.format.specs.Meaning.Faults.{ImageFault, HeaderFault}

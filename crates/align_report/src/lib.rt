@@ -18,9 +18,9 @@ ghost use Rattle.align_report.specs.Meaning.Report.{FactsOf, Reports, ow
 ghost use Rattle.align_report.specs.Working.Tabled.{ReportsDesigns};
 use image::Answer;
 use image::Length;
+use limits::Image;
 use machine::Sizes;
 use netlist::Design;
-use netlist::Image;
 use report::Facts;
 use report::Side;
 use streams::Input;

@@ -5,7 +5,7 @@ use mathlib.Core.List.{List}
 use native.Mathlib.Omega.{arith}
 use lib.ListN.{length, take, length-take}
 use Rattle.netlist.specs.declared.Design.{Design}
-use Rattle.format.specs.Meaning.Layout.{mostBytes}
+use Rattle.limits.specs.Meaning.Layout.{mostBytes}
 use Rattle.netlist.specs.Meaning.Faults.{Accepted}
 use Rattle.writer.specs.declared.Written.{Written}
 use Rattle.writer.specs.declared.Written.the-variants.{Bytes, Refused}

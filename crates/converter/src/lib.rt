@@ -2,7 +2,7 @@
 ghost use mathlib.Core.Path.{_≡_};
 ghost use Prim.Native.Nat.{_+_, _≤_};
 ghost use lib.ListN.{length, take};
-ghost use Rattle.format.specs.Meaning.Layout.{mostBytes};
+ghost use Rattle.limits.specs.Meaning.Layout.{mostBytes};
 ghost use Rattle.netlist.specs.Meaning.Faults.{Accepted};
 ghost use Rattle.streams.specs.Meaning.Input.{Within};
 ghost use Rattle.streams.specs.Meaning.Output.{Sends};

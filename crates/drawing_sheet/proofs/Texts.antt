@@ -12,7 +12,7 @@ use Rattle.memory.specs.Meaning.Orders.{FirstNumber}
 use Rattle.memory.proofs.Orders.{first-here, first-later}
 use Rattle.memory.proofs.Computed.{every, and-left, and-right, or-split, holds, every-at}
 use Rattle.netlist.specs.declared.Design.{Design}
-use Rattle.netlist.specs.Meaning.Limits.{mostInputs, mostLatches, mostOutputs, mostCells}
+use Rattle.limits.specs.Meaning.Limits.{mostInputs, mostLatches, mostOutputs, mostCells}
 use Rattle.netlist.specs.Meaning.Gates.{firstOf, secondOf}
 use Rattle.netlist.specs.Meaning.Nets.{cellBase, gateAt}
 use Rattle.netlist.specs.Meaning.Loops.{Reads, Path}

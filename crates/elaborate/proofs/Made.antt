@@ -14,7 +14,7 @@ use Rattle.memory.specs.Working.Filling.{Filled}
 use Rattle.memory.proofs.Lists.{length-listOf, getD-listOf, filled-listOf}
 use Rattle.netlist.specs.declared.Cell.{Cell}
 use Rattle.netlist.specs.declared.Design.{Design}
-use Rattle.netlist.specs.Meaning.Limits.{mostLatches, mostOutputs, mostCells}
+use Rattle.limits.specs.Meaning.Limits.{mostLatches, mostOutputs, mostCells}
 use Rattle.netlist.specs.Meaning.Gates.{blankCell}
 use Rattle.netlist.specs.Meaning.Faults.{DesignFault}
 use Rattle.netlist.proofs.Numbers.{Kind, three, five, nine, kind}

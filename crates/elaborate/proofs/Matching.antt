@@ -9,7 +9,7 @@ use lib.ListN.{length, getD}
 use Rattle.numbers.specs.Meaning.Bits.{bitOf}
 use Rattle.netlist.specs.declared.Gate.{Gate}
 use Rattle.netlist.specs.declared.Design.{Design}
-use Rattle.netlist.specs.Meaning.Limits.{mostCells}
+use Rattle.limits.specs.Meaning.Limits.{mostCells}
 use Rattle.netlist.specs.Meaning.Gates.{truth}
 use Rattle.netlist.specs.Meaning.Nets.{cellBase, gateAt, gateValue, source, Satisfies}
 use Rattle.drawing.specs.declared.Drawing.{Drawing}

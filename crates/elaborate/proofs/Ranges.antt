@@ -11,7 +11,7 @@ use Rattle.numbers.proofs.Order.{le-of-not-lt}
 use Rattle.memory.specs.Meaning.Lists.{listOf}
 use Rattle.memory.proofs.Lists.{getD-listOf, entry-listOf}
 use Rattle.netlist.specs.declared.Cell.{Cell}
-use Rattle.netlist.specs.Meaning.Limits.{mostLatches, mostOutputs, mostCells}
+use Rattle.limits.specs.Meaning.Limits.{mostLatches, mostOutputs, mostCells}
 use Rattle.netlist.specs.Meaning.Gates.{blankCell}
 use Rattle.netlist.specs.Meaning.Nets.{netsOf, gateAt}
 use Rattle.netlist.specs.Working.Sound.{NetsBelow}

@@ -8,7 +8,7 @@ use lib.Dec.{ltb}
 use lib.ListN.{length, getD}
 use Rattle.numbers.proofs.Order.{le-of-not-lt}
 use Rattle.numbers.proofs.Digits.{horner-cong}
-use Rattle.netlist.specs.Meaning.Limits.{mostCells}
+use Rattle.limits.specs.Meaning.Limits.{mostCells}
 use Rattle.netlist.specs.Meaning.Nets.{cellBase, value, Satisfies, nextState, outputs}
 use Rattle.netlist.proofs.Values.{value-satisfies, value-unique}
 use Rattle.drawing.specs.declared.Drawing.{Drawing}

@@ -4,16 +4,16 @@ ghost use Prim.Native.Nat.{_+_, _<_, _≤_};
 ghost use lib.ListN.{length};
 ghost use Rattle.memory.specs.Meaning.Slices.{Zero};
 ghost use Rattle.memory.specs.Working.Filling.{Filled};
-ghost use Rattle.netlist.specs.Meaning.Limits.{mostCells};
+ghost use Rattle.limits.specs.Meaning.Limits.{mostCells};
 ghost use Rattle.netlist.specs.Meaning.Gates.{blankCell};
 ghost use Rattle.drawing.specs.Working.Places.{reads, readAt};
 ghost use Rattle.drawing.specs.Meaning.Wires.{netOf, cellOf};
 ghost use Rattle.drawing.specs.Working.Wiring.{Spelled, Wired};
 use drawing::Drawing;
 use drawing::Wires;
+use limits::Image;
 use netlist::Cell;
 use netlist::Gate;
-use netlist::Image;
 
 // All cells, blank beyond them.
 pub(crate) fn cells_of(d: Drawing, w: Wires) -> [Cell; Image::MOST_CELLS]

@@ -3,7 +3,7 @@ mod cells;
 
 ghost use mathlib.Core.Path.{_≡_};
 ghost use Prim.Native.Nat.{_+_, _≤_};
-ghost use Rattle.netlist.specs.Meaning.Limits.{mostCells};
+ghost use Rattle.limits.specs.Meaning.Limits.{mostCells};
 ghost use Rattle.drawing.specs.Meaning.Wires.{drawn};
 ghost use Rattle.drawing.specs.Working.Wiring.{Spelled, Wired};
 ghost use Rattle.elaborate.specs.Working.Drawn.{Draws};
@@ -11,8 +11,8 @@ use drawing::Drawing;
 use drawing::Wires;
 use image::Answer;
 use image::Reading;
+use limits::Image;
 use netlist::Design;
-use netlist::Image;
 
 // The design of a drawing whose lines are spelled by the format, or the number by which it is turned away, with the empty design.
 pub fn design_of(d: Drawing) -> Reading

@@ -11,9 +11,9 @@ ghost use Rattle.netlist.specs.Meaning.Gates.{firstOf, secondOf, truth};
 ghost use Rattle.netlist.specs.Meaning.Nets.{cellBase, gateValue, source, value, nextState, outputs};
 ghost use Rattle.netlist.specs.Working.Sound.{Sound};
 ghost use Rattle.evaluator.specs.Working.Values.{mostNets, Evaluable, Holds, Readable, Spreads};
+use limits::Image;
 use netlist::Design;
 use netlist::Gate;
-use netlist::Image;
 
 pub struct Stepped {
     pub next: u8,

@@ -17,8 +17,8 @@ use Rattle.memory.proofs.Lists.{entry-listOf, filled-listOf}
 use Rattle.memory.proofs.Refusals.{Clean}
 use Rattle.netlist.specs.declared.Cell.{Cell}
 use Rattle.netlist.specs.declared.Design.{Design}
-use Rattle.netlist.specs.Meaning.Limits.{mostLatches, mostOutputs, mostCells}
-use Rattle.format.specs.Meaning.Layout.{kindBits}
+use Rattle.limits.specs.Meaning.Limits.{mostLatches, mostOutputs, mostCells}
+use Rattle.limits.specs.Meaning.Layout.{kindBits}
 use Rattle.netlist.specs.Meaning.Gates.{blankCell}
 use Rattle.netlist.specs.Meaning.Nets.{gateAt}
 use Rattle.format.specs.Meaning.Format.{inputsIn, latchesIn, outputsIn, countIn, bitsIn, bytesIn, kindIn, firstIn, secondIn, tailIn, gateIn, cellIn, cellAt, decoded, tailNet, bitsOf, Encodes}

@@ -3,7 +3,7 @@ use mathlib.Core.Path.{_≡_}
 use Prim.Native.Nat.{ℕ, _+_}
 use mathlib.Core.List.{List}
 use Rattle.format.specs.declared.fields.Header.{Header}
-use Rattle.format.specs.Meaning.Layout.{bitsFor, bytesFor}
+use Rattle.limits.specs.Meaning.Layout.{bitsFor, bytesFor}
 use Rattle.format.specs.Meaning.Format.{netsIn, bitsIn, bytesIn}
 use Rattle.format.specs.Working.Scanning.{SpellsHeader}
 

@@ -1,4 +1,3 @@
-pub mod Sizes
 pub mod Gates
 pub mod Refusals
 pub mod Headers

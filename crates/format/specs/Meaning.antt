@@ -1,4 +1,3 @@
 -- What has to be believed of the format: the definitions that public contracts cite, in the order of document 01.
-pub mod Layout
 pub mod Format
 pub mod Faults

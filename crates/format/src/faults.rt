@@ -6,14 +6,14 @@ ghost use lib.ListN.{length};
 ghost use Rattle.memory.specs.Meaning.Refusals.{Free, FirstOrNone};
 ghost use Rattle.memory.specs.Working.Tests.{Tells, Splits};
 ghost use Rattle.netlist.specs.Meaning.Faults.{DesignFault};
-ghost use Rattle.format.specs.Meaning.Layout.{countBits};
+ghost use Rattle.limits.specs.Meaning.Layout.{countBits};
 ghost use Rattle.reader.specs.Meaning.Fields.{fieldAt};
 ghost use Rattle.format.specs.Meaning.Format.{decoded, countIn};
 ghost use Rattle.format.specs.Meaning.Faults.{ImageFault, HeaderFault};
 ghost use Rattle.format.specs.Working.Scanning.{Narrow, SpellsHeader, UnreadAbove, UnreadBelow};
 use crate::fields;
 use crate::fields::Header;
-use netlist::Image;
+use limits::Image;
 
 // The lowest number up to 4 that applies to an image of so many bytes with this header, or 0.
 pub fn header_fault(bytes: usize, h: Header) -> u8

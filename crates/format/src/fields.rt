@@ -1,7 +1,7 @@
 // The fields of an image, each where the format has it.
 ghost use mathlib.Core.Path.{_≡_};
 ghost use Prim.Native.Nat.{_+_, _*_, _^_, _<_, _≤_};
-ghost use Rattle.format.specs.Meaning.Layout.{countBits, netBits, bitsFor, bytesFor};
+ghost use Rattle.limits.specs.Meaning.Layout.{countBits, netBits, bitsFor, bytesFor};
 ghost use Rattle.format.specs.Meaning.Format.{countIn, cellAt, tailIn};
 ghost use Rattle.format.specs.Working.Scanning.{SpellsHeader, Narrow, SpellsCell};
 use crate::Layout;
@@ -18,8 +18,8 @@ pub struct Header {
 pub fn header_of(image: &[u8]) -> Header
     ensures { λ r. ⌜ SpellsHeader (now (image .entry)) r ⌝ }
 {
-    let size = Layout::SIZE_BITS;
-    let taken = reader::run(image, 0, size, size, size, size, Layout::COUNT_BITS);
+    let size = Image::SIZE_BITS;
+    let taken = reader::run(image, 0, size, size, size, size, Image::COUNT_BITS);
     Header {
         version: taken.first,
         inputs: taken.second,
@@ -64,13 +64,13 @@ pub fn cell(image: &[u8], i: usize) -> CellFields
     requires { ⌜ i < 2 ^ countBits ⌝ }
     ensures { λ r. ⌜ SpellsCell (now (image .entry)) i r ⌝ }
 {
-    let at = Layout::HEADER_BITS + Layout::CELL_BITS * i;
+    let at = Image::HEADER_BITS + Image::CELL_BITS * i;
     let taken = reader::run(
         image,
         at,
-        Layout::KIND_BITS,
-        Layout::NET_BITS,
-        Layout::NET_BITS,
+        Image::KIND_BITS,
+        Image::NET_BITS,
+        Image::NET_BITS,
         0,
         0,
     );
@@ -87,7 +87,7 @@ pub fn tail(image: &[u8], count: usize, t: usize) -> u16
     ensures { λ r. ⌜ r ≡ tailIn (now (image .entry)) t ⌝ }
 {
     let at = tail_at(count, t);
-    let taken = reader::run(image, at, Layout::NET_BITS, 0, 0, 0, 0);
+    let taken = reader::run(image, at, Image::NET_BITS, 0, 0, 0, 0);
     taken.first
 }
 
@@ -96,5 +96,5 @@ fn tail_at(cells: usize, t: usize) -> usize
     requires { ⌜ (cells < 2 ^ countBits) × (t < 2 ^ netBits) ⌝ }
     ensures { λ r. ⌜ r ≡ cellAt cells + netBits * t ⌝ }
 {
-    Layout::HEADER_BITS + Layout::CELL_BITS * cells + Layout::NET_BITS * t
+    Image::HEADER_BITS + Image::CELL_BITS * cells + Image::NET_BITS * t
 }

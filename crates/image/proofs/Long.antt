@@ -11,8 +11,8 @@ use Rattle.numbers.proofs.Digits.{horner-cong}
 use Rattle.memory.specs.Meaning.Refusals.{Free, First}
 use Rattle.memory.specs.Working.Lowest.{Lowest}
 use Rattle.memory.proofs.Table.{first-of-lowest, lowest-of-first}
-use Rattle.format.specs.Meaning.Layout.{mostBytes, sizeBits, countBits, kindBits, netBits, inputsAt, latchesAt, outputsAt, countAt}
-use Rattle.format.proofs.Sizes.{bytes-le-most}
+use Rattle.limits.specs.Meaning.Layout.{mostBytes, sizeBits, countBits, kindBits, netBits, inputsAt, latchesAt, outputsAt, countAt}
+use Rattle.limits.proofs.Sizes.{bytes-le-most}
 use Rattle.reader.specs.Meaning.Fields.{bitAt, fieldAt}
 use Rattle.format.specs.Meaning.Format.{versionIn, inputsIn, latchesIn, outputsIn, countIn, netsIn, bitsIn, bytesIn, cellAt, kindIn, firstIn, secondIn, tailIn}
 use Rattle.format.specs.Meaning.Faults.{ImageFault, HeaderFault}

@@ -4,18 +4,18 @@ ghost use Prim.Native.Nat.{_+_, _^_, _<_, _≤_};
 ghost use lib.ListN.{length};
 ghost use Rattle.memory.specs.Meaning.Slices.{Zero};
 ghost use Rattle.memory.specs.Working.Filling.{Filled};
-ghost use Rattle.netlist.specs.Meaning.Limits.{mostCells};
-ghost use Rattle.format.specs.Meaning.Layout.{countBits, kindBits, netBits};
+ghost use Rattle.limits.specs.Meaning.Limits.{mostCells};
+ghost use Rattle.limits.specs.Meaning.Layout.{countBits, kindBits, netBits};
 ghost use Rattle.netlist.specs.Meaning.Gates.{gateOf, blankCell};
 ghost use Rattle.format.specs.Meaning.Format.{countIn, gateIn, cellIn, tailIn, decoded};
 ghost use Rattle.image.specs.Meaning.Reading.{emptyDesign};
 ghost use Rattle.format.specs.Working.Scanning.{SpellsHeader, WithinLimits};
 use format::fields;
 use format::fields::Header;
+use limits::Image;
 use netlist::Cell;
 use netlist::Design;
 use netlist::Gate;
-use netlist::Image;
 
 pub(crate) fn decode(image: &[u8], h: Header) -> Design
     requires { ⌜ (SpellsHeader (now image) h) × (WithinLimits (now image)) ⌝ }

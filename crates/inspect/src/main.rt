@@ -1,9 +1,9 @@
 // Reads one netlist image, and prints the sizes of its design.
-use format::Layout;
+use limits::Image;
 
 fn main() {
     // One byte more than the largest image has, so that bytes left over are noticed.
-    let mut room = [0u8; Layout::MOST_BYTES + 1];
+    let mut room = [0u8; Image::MOST_BYTES + 1];
     let input = streams::read_input(&mut room);
     let mut text = [0u8; 120];
     let sent = inspector::answer(&room, input, &mut text);

@@ -1,5 +1,4 @@
 -- What has to be believed of netlists: the definitions that public contracts cite, in the order of document 01.
-pub mod Limits
 pub mod Gates
 pub mod Nets
 pub mod Loops

@@ -1,42 +1,8 @@
-// Netlists: gates, cells and designs, with the limits of the image format.
+// Netlists: gates, cells and designs.
 ghost use mathlib.Core.Path.{_≡_};
 ghost use lib.ListN.{getD};
 ghost use Rattle.netlist.specs.Meaning.Gates.{kindOf, firstOf, secondOf};
-ghost use Rattle.netlist.specs.Meaning.Limits.{AreLimits};
-
-// The limits of the image format, named once.
-pub struct Image {}
-
-impl Image {
-    pub const MOST_INPUTS: usize = 6;
-
-    pub const MOST_LATCHES: usize = 7;
-
-    pub const MOST_OUTPUTS: usize = 8;
-
-    pub const MOST_CELLS: usize = 256;
-
-    pub const MOST_NETS: usize = 2 + Image::MOST_INPUTS + Image::MOST_LATCHES + Image::MOST_CELLS;
-
-    // The limits as numbers, so that what is believed of the format and the constants are held to each other.
-    pub fn limits() -> Limits
-        ensures { λ r. ⌜ AreLimits r ⌝ }
-    {
-        Limits {
-            inputs: Image::MOST_INPUTS,
-            latches: Image::MOST_LATCHES,
-            outputs: Image::MOST_OUTPUTS,
-            cells: Image::MOST_CELLS,
-        }
-    }
-}
-
-pub struct Limits {
-    pub inputs: usize,
-    pub latches: usize,
-    pub outputs: usize,
-    pub cells: usize,
-}
+use limits::Image;
 
 // A gate with exactly the nets that its kind reads.
 pub enum Gate {

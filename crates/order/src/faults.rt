@@ -6,8 +6,8 @@ ghost use Rattle.memory.specs.Working.Tests.{Tells, Splits};
 ghost use Rattle.netlist.specs.Meaning.Faults.{DesignFault};
 ghost use Rattle.netlist.specs.Meaning.Nets.{netsOf};
 ghost use Rattle.netlist.specs.Working.Sound.{Within, NetsBelow};
+use limits::Image;
 use netlist::Design;
-use netlist::Image;
 
 pub(crate) fn over_limit(d: Design) -> bool
     ensures { λ r. ⌜ Tells r (DesignFault d 3) ⌝ }

@@ -11,14 +11,14 @@ ghost use lib.ListN.{length, getD};
 ghost use Rattle.memory.specs.Meaning.Refusals.{FirstOrNone};
 ghost use Rattle.memory.specs.Meaning.Slices.{Zero};
 ghost use Rattle.netlist.specs.Meaning.Gates.{firstOf, secondOf};
-ghost use Rattle.netlist.specs.Meaning.Limits.{mostCells};
+ghost use Rattle.limits.specs.Meaning.Limits.{mostCells};
 ghost use Rattle.netlist.specs.Meaning.Faults.{DesignFault};
 ghost use Rattle.order.specs.Meaning.Order.{Plans};
 ghost use Rattle.netlist.specs.Working.Sound.{Sound, readyNet, readyGate};
 ghost use Rattle.order.specs.Working.Placing.{NextReady, Placed};
+use limits::Image;
 use netlist::Design;
 use netlist::Gate;
-use netlist::Image;
 
 // The lowest of 3, 5 and 9 that applies to a design, or 0.
 pub fn fault_of(d: Design) -> u8

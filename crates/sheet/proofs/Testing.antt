@@ -12,7 +12,7 @@ use Rattle.memory.specs.Meaning.Refusals.{Free}
 use Rattle.memory.proofs.Refusals.{Clean, clean-more}
 use Rattle.memory.proofs.Computed.{every, and-left, and-right, or-right, every-at, passes, pass}
 use Rattle.netlist.specs.declared.Design.{Design}
-use Rattle.netlist.specs.Meaning.Limits.{mostInputs, mostLatches, mostOutputs, mostCells}
+use Rattle.limits.specs.Meaning.Limits.{mostInputs, mostLatches, mostOutputs, mostCells}
 use Rattle.netlist.specs.Meaning.Gates.{firstOf, secondOf}
 use Rattle.netlist.specs.Meaning.Nets.{cellBase, gateAt}
 use Rattle.netlist.specs.Meaning.Loops.{Reads, Path}

@@ -7,8 +7,8 @@ ghost use Rattle.netlist.specs.Meaning.Faults.{DesignFault};
 ghost use Rattle.netlist.specs.Working.Sound.{Sound};
 ghost use Rattle.simulator.specs.Meaning.Tables.{sizeOf, TableFault, InterfaceFault, BothFault};
 ghost use Rattle.simulator.specs.Working.Filling.{Fillable, FilledTables};
+use limits::Image;
 use netlist::Design;
-use netlist::Image;
 
 // How many bytes the table slices of a design have.
 pub struct Room {

@@ -1,12 +1,11 @@
 // Designs: an image in hexadecimal, or a list of all that stands in memory.
 use crate::slices;
 use crate::words;
-use format::Layout;
 use image::Answer;
+use limits::Image;
 use netlist::Cell;
 use netlist::Design;
 use netlist::Gate;
-use netlist::Image;
 
 // Where the cells stand in such a list, behind 4 sizes, 7 nets of flip-flops and 8 of outputs; and how many numbers it has.
 const CELLS_AT: usize = 19;
@@ -35,7 +34,7 @@ pub(crate) fn drawn_at(line: &[u8], at: usize, wanted: bool) -> Drawn {
             next: w.next,
         };
     }
-    let mut bytes = [0u8; Layout::MOST_BYTES];
+    let mut bytes = [0u8; Image::MOST_BYTES];
     let w = words::bytes(line, at, &mut bytes);
     let r = image::read(slices::cut(&bytes, 0, w.len));
     let answer = r.answer;

@@ -12,7 +12,7 @@ use lib.Seq.{length-take-le, getD-take}
 use Rattle.numbers.proofs.Digits.{horner-digit, horner-lt}
 use Rattle.memory.specs.Working.Filling.{Filled}
 use Rattle.netlist.specs.declared.Design.{Design}
-use Rattle.format.specs.Meaning.Layout.{kindBits, sizeBits, countBits, inputsAt, latchesAt, outputsAt, countAt, netBits, headerBits, cellBits}
+use Rattle.limits.specs.Meaning.Layout.{kindBits, sizeBits, countBits, inputsAt, latchesAt, outputsAt, countAt, netBits, headerBits, cellBits}
 use Rattle.netlist.specs.Meaning.Gates.{kindOf, firstOf, secondOf}
 use Rattle.netlist.specs.Meaning.Nets.{gateAt, netsOf}
 use Rattle.netlist.specs.Working.Sound.{Sound}

@@ -11,7 +11,7 @@ use lib.Dec.{lit<, ltb}
 use lib.ListN.{length, getD}
 use Rattle.numbers.specs.Meaning.Bits.{bitOf}
 use Rattle.netlist.specs.declared.Design.{Design}
-use Rattle.format.specs.Meaning.Layout.{sizeBits, countBits, kindBits, netBits, headerBits, cellBits, latchesAt, outputsAt, countAt}
+use Rattle.limits.specs.Meaning.Layout.{sizeBits, countBits, kindBits, netBits, headerBits, cellBits, latchesAt, outputsAt, countAt}
 use Rattle.netlist.specs.Meaning.Nets.{gateAt}
 use Rattle.reader.specs.Meaning.Fields.{bitAt, fieldAt}
 use Rattle.format.specs.Meaning.Format.{versionIn, inputsIn, latchesIn, outputsIn, countIn, kindIn, firstIn, secondIn, cellAt, tailNet, bitsOf, Encodes}

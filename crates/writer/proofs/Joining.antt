@@ -5,7 +5,7 @@ use native.Mathlib.Omega.{arith}
 use native.Mathlib.Nat.{mul-le-mul}
 use lib.Arith.{digits-div, digits-mod}
 use lib.Pow.{pow-mono}
-use Rattle.format.specs.Meaning.Layout.{netBits}
+use Rattle.limits.specs.Meaning.Layout.{netBits}
 use Rattle.writer.specs.Working.Packing.{joined}
 
 module _ (w : ℕ) (h : w ≤ netBits) where

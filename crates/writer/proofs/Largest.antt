@@ -7,14 +7,14 @@ use lib.ListN.{getD, replicate}
 use Rattle.memory.proofs.Filling.{all-same}
 use Rattle.netlist.specs.declared.Cell.{Cell}
 use Rattle.netlist.specs.declared.Design.{Design}
-use Rattle.netlist.specs.Meaning.Limits.{mostInputs, mostLatches, mostOutputs, mostCells}
-use Rattle.format.specs.Meaning.Layout.{mostBytes}
+use Rattle.limits.specs.Meaning.Limits.{mostInputs, mostLatches, mostOutputs, mostCells}
+use Rattle.limits.specs.Meaning.Layout.{mostBytes}
 use Rattle.netlist.specs.Meaning.Gates.{firstOf, secondOf, blankCell}
 use Rattle.netlist.specs.Meaning.Nets.{gateAt}
 use Rattle.netlist.specs.Meaning.Loops.{Reads, Path}
 use Rattle.netlist.specs.Meaning.Faults.{DesignFault, Accepted}
 use Rattle.netlist.proofs.Numbers.{sound-of}
-use Rattle.format.proofs.Sizes.{bytes-le-most}
+use Rattle.limits.proofs.Sizes.{bytes-le-most}
 use Rattle.format.specs.Meaning.Format.{bytesOf}
 
 pub largest : (d : Design) → Accepted d → bytesOf d ≤ mostBytes

@@ -5,14 +5,13 @@ ghost use lib.ListN.{length, getD};
 ghost use Rattle.numbers.specs.Meaning.Bits.{bitOf};
 ghost use Rattle.memory.specs.Meaning.Slices.{Zero};
 ghost use Rattle.netlist.specs.Working.Sound.{Sound};
-ghost use Rattle.netlist.specs.Meaning.Limits.{mostLatches, mostOutputs, mostCells};
-ghost use Rattle.format.specs.Meaning.Layout.{mostBytes};
+ghost use Rattle.limits.specs.Meaning.Limits.{mostLatches, mostOutputs, mostCells};
+ghost use Rattle.limits.specs.Meaning.Layout.{mostBytes};
 ghost use Rattle.format.specs.Meaning.Format.{bytesOf};
 ghost use Rattle.writer.specs.Meaning.Writing.{HoldsImage};
 ghost use Rattle.writer.specs.Working.Packing.{wordBit, wordByte};
-use format::Layout;
+use limits::Image;
 use netlist::Design;
-use netlist::Image;
 
 // How many bytes the image of a design takes.
 pub(crate) fn bytes(d: Design) -> usize
@@ -20,7 +19,7 @@ pub(crate) fn bytes(d: Design) -> usize
     ensures { λ r. ⌜ r ≡ bytesOf d ⌝ }
 {
     let tails = d.latches as usize + d.outputs as usize;
-    (Layout::HEADER_BITS + Layout::CELL_BITS * d.count as usize + Layout::NET_BITS * tails + 7) / 8
+    (Image::HEADER_BITS + Image::CELL_BITS * d.count as usize + Image::NET_BITS * tails + 7) / 8
 }
 
 // Writes the image of a design into a cleared slice.
@@ -72,24 +71,24 @@ fn bit_at(
     requires { ⌜ (count ≤ mostCells) × (tails ≤ mostLatches + mostOutputs) ⌝ }
     ensures { λ r. ⌜ r ≡ wordBit header (λ i. getD (now (cells .entry)) i 0) (λ t. getD (now (tail .entry)) t 0) count tails i ⌝ }
 {
-    let behind = Layout::HEADER_BITS + Layout::CELL_BITS * count;
-    if i < Layout::HEADER_BITS {
-        return digit(Layout::HEADER_BITS, header, i);
+    let behind = Image::HEADER_BITS + Image::CELL_BITS * count;
+    if i < Image::HEADER_BITS {
+        return digit(Image::HEADER_BITS, header, i);
     }
     if i < behind {
-        let o = i - Layout::HEADER_BITS;
+        let o = i - Image::HEADER_BITS;
         return digit(
-            Layout::CELL_BITS,
-            cells[o / Layout::CELL_BITS],
-            o % Layout::CELL_BITS,
+            Image::CELL_BITS,
+            cells[o / Image::CELL_BITS],
+            o % Image::CELL_BITS,
         );
     }
-    if i < behind + Layout::NET_BITS * tails {
+    if i < behind + Image::NET_BITS * tails {
         let o = i - behind;
         return digit(
-            Layout::NET_BITS,
-            crate::packing::wide(tail[o / Layout::NET_BITS]),
-            o % Layout::NET_BITS,
+            Image::NET_BITS,
+            crate::packing::wide(tail[o / Image::NET_BITS]),
+            o % Image::NET_BITS,
         );
     }
     0

@@ -3,16 +3,15 @@ ghost use mathlib.Core.Path.{_≡_};
 ghost use Prim.Native.Nat.{ℕ, _+_, _^_, _<_, _≤_};
 ghost use Rattle.memory.specs.Working.Filling.{Filled};
 ghost use Rattle.netlist.specs.Meaning.Gates.{firstOf, secondOf};
-ghost use Rattle.netlist.specs.Meaning.Limits.{mostLatches, mostOutputs, mostCells};
-ghost use Rattle.format.specs.Meaning.Layout.{netBits};
+ghost use Rattle.limits.specs.Meaning.Limits.{mostLatches, mostOutputs, mostCells};
+ghost use Rattle.limits.specs.Meaning.Layout.{netBits};
 ghost use Rattle.netlist.specs.Meaning.Nets.{gateAt};
 ghost use Rattle.netlist.specs.Working.Sound.{Sound};
 ghost use Rattle.format.specs.Meaning.Format.{tailNet};
 ghost use Rattle.writer.specs.Working.Packing.{joined, headerWord, cellWord, Packs};
-use format::Layout;
+use limits::Image;
 use netlist::Design;
 use netlist::Gate;
-use netlist::Image;
 
 pub struct Words {
     pub header: u32,
@@ -38,10 +37,10 @@ fn header_word(d: Design) -> u32
     requires { ⌜ Sound d ⌝ }
     ensures { λ r. ⌜ r ≡ headerWord d ⌝ }
 {
-    let inputs = join(1, d.inputs as u16, Layout::SIZE_BITS);
-    let latches = join(inputs, d.latches as u16, Layout::SIZE_BITS);
-    let outputs = join(latches, d.outputs as u16, Layout::SIZE_BITS);
-    join(outputs, d.count, Layout::COUNT_BITS)
+    let inputs = join(1, d.inputs as u16, Image::SIZE_BITS);
+    let latches = join(inputs, d.latches as u16, Image::SIZE_BITS);
+    let outputs = join(latches, d.outputs as u16, Image::SIZE_BITS);
+    join(outputs, d.count, Image::COUNT_BITS)
 }
 
 // The cells of a design as numbers, 0 beyond them.
@@ -68,9 +67,9 @@ fn cell_word(g: Gate) -> u32
     let first = join(
         wide(netlist::kind_of(g)),
         netlist::first_of(g),
-        Layout::NET_BITS,
+        Image::NET_BITS,
     );
-    join(first, netlist::second_of(g), Layout::NET_BITS)
+    join(first, netlist::second_of(g), Image::NET_BITS)
 }
 
 // The nets of the flip-flops and behind them those of the outputs, 0 beyond them.

@@ -21,7 +21,7 @@ use Rattle.io.specs.Counts as io
 use Rattle.memory.specs.Meaning.Refusals.{Free, First}
 use Rattle.memory.specs.Meaning.Slices.{Zero}
 use Rattle.netlist.specs.declared.Design.{Design}
-use Rattle.format.specs.Meaning.Layout.{mostBytes}
+use Rattle.limits.specs.Meaning.Layout.{mostBytes}
 use Rattle.format.specs.Meaning.Format.{bytesIn, decoded}
 use Rattle.format.specs.Meaning.Faults.{ImageFault, HeaderFault}
 use Rattle.machine.specs.declared.Pair.{Pair}

@@ -13,7 +13,7 @@ use Rattle.memory.specs.Meaning.Orders.{FirstNumber}
 use Rattle.netlist.specs.declared.Gate.{Gate}
 use Rattle.netlist.specs.declared.Gate.the-variants.{Buf, Not, And}
 use Rattle.netlist.specs.declared.Design.{Design}
-use Rattle.netlist.specs.Meaning.Limits.{mostLatches, mostOutputs, mostCells}
+use Rattle.limits.specs.Meaning.Limits.{mostLatches, mostOutputs, mostCells}
 use Rattle.drawing.specs.Meaning.Wires.{drawn}
 use Rattle.aiger.specs.Meaning.Format.{drawingIn}
 use Rattle.aiger.specs.Meaning.Faults.{Part, TextFault, order, numberOf}

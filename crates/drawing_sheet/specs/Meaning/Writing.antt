@@ -13,7 +13,7 @@ use mathlib.Core.Logic.{_⊎_}
 use mathlib.Core.List.{List, [], _∷_, _++_}
 use lib.ListN.{length, getD}
 use Rattle.memory.specs.Meaning.Lists.{listOf}
-use Rattle.netlist.specs.Meaning.Limits.{mostInputs, mostLatches, mostOutputs, mostCells}
+use Rattle.limits.specs.Meaning.Limits.{mostInputs, mostLatches, mostOutputs, mostCells}
 use Rattle.drawing.specs.declared.Drawing.{Drawing}
 use Rattle.drawing.specs.Meaning.Limits.{mostVariables}
 use Rattle.drawing.specs.Meaning.Numbers.{numberAt, latchLine, outputLine, input, latch, next, shown, gate, first, second}

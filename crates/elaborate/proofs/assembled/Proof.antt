@@ -3,7 +3,7 @@ use Prim.Native.Nat.{_+_}
 use mathlib.Core.Path.{refl}
 use native.Mathlib.Omega.{arith}
 use Rattle.memory.proofs.Filling.{all-same}
-use Rattle.netlist.specs.Meaning.Limits.{mostLatches, mostOutputs}
+use Rattle.limits.specs.Meaning.Limits.{mostLatches, mostOutputs}
 use Rattle.elaborate.proofs.Made.{made}
 use borrow.Author.Needs.{needs}
 use Rattle.elaborate.proofs.assembled.Statement.{statement}

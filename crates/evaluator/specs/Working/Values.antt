@@ -11,7 +11,7 @@ use lib.ListN.{length, getD}
 use Rattle.numbers.specs.Meaning.Bits.{bitOf}
 use Rattle.memory.specs.Working.Filling.{Filled}
 use Rattle.netlist.specs.declared.Design.{Design}
-use Rattle.netlist.specs.Meaning.Limits.{mostInputs, mostLatches, mostCells}
+use Rattle.limits.specs.Meaning.Limits.{mostInputs, mostLatches, mostCells}
 use Rattle.order.specs.Meaning.Order.{Ordered}
 use Rattle.netlist.specs.Working.Sound.{Sound}
 

@@ -20,8 +20,8 @@ use Rattle.reader.specs.Meaning.Fields.{bitAt, fieldAt}
 use Rattle.netlist.specs.declared.Gate.{Gate}
 use Rattle.netlist.specs.declared.Cell.{Cell}
 use Rattle.netlist.specs.declared.Design.{Design}
-use Rattle.netlist.specs.Meaning.Limits.{mostLatches, mostOutputs, mostCells}
-use Rattle.format.specs.Meaning.Layout.{sizeBits, countBits, kindBits, netBits, inputsAt, latchesAt, outputsAt, countAt, headerBits, cellBits, bitsFor, bytesFor}
+use Rattle.limits.specs.Meaning.Limits.{mostLatches, mostOutputs, mostCells}
+use Rattle.limits.specs.Meaning.Layout.{sizeBits, countBits, kindBits, netBits, inputsAt, latchesAt, outputsAt, countAt, headerBits, cellBits, bitsFor, bytesFor}
 use Rattle.netlist.specs.Meaning.Gates.{gateOf, kindOf, firstOf, secondOf, blankCell}
 use Rattle.netlist.specs.Meaning.Nets.{gateAt}
 

@@ -8,8 +8,8 @@
 use Prim.Native.Nat.{ℕ, _^_, _<_, _≤_}
 use mathlib.Core.Path.{_≡_}
 use mathlib.Core.List.{List}
-use Rattle.netlist.specs.Meaning.Limits.{mostInputs, mostLatches, mostOutputs, mostCells}
-use Rattle.format.specs.Meaning.Layout.{sizeBits, countBits, kindBits}
+use Rattle.limits.specs.Meaning.Limits.{mostInputs, mostLatches, mostOutputs, mostCells}
+use Rattle.limits.specs.Meaning.Layout.{sizeBits, countBits, kindBits}
 use Rattle.format.specs.declared.fields.Header.{Header}
 use Rattle.format.specs.declared.fields.CellFields.{CellFields}
 use Rattle.format.specs.Meaning.Format.{versionIn, inputsIn, latchesIn, outputsIn, countIn, kindIn, firstIn, secondIn}

@@ -9,7 +9,7 @@ use mathlib.Core.List.{List}
 use lib.ListN.{replicate}
 use Rattle.memory.specs.Meaning.Refusals.{Reply, answer, refusal, Keeps}
 use Rattle.netlist.specs.declared.Design.{Design}
-use Rattle.netlist.specs.Meaning.Limits.{mostLatches, mostOutputs, mostCells}
+use Rattle.limits.specs.Meaning.Limits.{mostLatches, mostOutputs, mostCells}
 use Rattle.netlist.specs.Meaning.Gates.{blankCell}
 use Rattle.image.specs.declared.Length.{Length}
 use Rattle.image.specs.declared.Length.the-variants as Length·variants

@@ -11,7 +11,7 @@ use lib.ListN.{take}
 use Rattle.io.specs.Counts.{Counts}
 use Rattle.memory.specs.Meaning.Refusals.{Free, First}
 use Rattle.netlist.specs.declared.Design.{Design}
-use Rattle.format.specs.Meaning.Layout.{mostBytes}
+use Rattle.limits.specs.Meaning.Layout.{mostBytes}
 use Rattle.format.specs.Meaning.Format.{decoded}
 use Rattle.format.specs.Meaning.Faults.{ImageFault}
 use Rattle.pieces.specs.Meaning.Pieces.{bytes, field, lastField}

@@ -7,7 +7,7 @@ use mathlib.Core.Path.{_≡_}
 use lib.ListN.{getD}
 use Rattle.memory.specs.Meaning.Refusals.{Free}
 use Rattle.netlist.specs.declared.Design.{Design}
-use Rattle.netlist.specs.Meaning.Limits.{mostInputs, mostLatches, mostOutputs, mostCells}
+use Rattle.limits.specs.Meaning.Limits.{mostInputs, mostLatches, mostOutputs, mostCells}
 use Rattle.netlist.specs.Meaning.Gates.{firstOf, secondOf}
 use Rattle.netlist.specs.Meaning.Nets.{netsOf, gateAt}
 use Rattle.netlist.specs.Meaning.Loops.{OnLoop}

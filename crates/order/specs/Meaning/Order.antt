@@ -11,7 +11,7 @@ use lib.ListN.{length, getD}
 use Rattle.memory.specs.Meaning.Refusals.{FirstOrNone}
 use Rattle.memory.specs.Meaning.Slices.{Zero, ZeroFrom}
 use Rattle.netlist.specs.declared.Design.{Design}
-use Rattle.netlist.specs.Meaning.Limits.{mostCells}
+use Rattle.limits.specs.Meaning.Limits.{mostCells}
 use Rattle.netlist.specs.Meaning.Gates.{firstOf, secondOf}
 use Rattle.netlist.specs.Meaning.Nets.{cellBase, gateAt}
 use Rattle.netlist.specs.Meaning.Faults.{DesignFault}

@@ -14,8 +14,8 @@ use Rattle.numbers.specs.Meaning.Bits.{bitOf, horner}
 use Rattle.memory.specs.Working.Filling.{Filled}
 use Rattle.netlist.specs.declared.Gate.{Gate}
 use Rattle.netlist.specs.declared.Design.{Design}
-use Rattle.netlist.specs.Meaning.Limits.{mostLatches, mostOutputs, mostCells}
-use Rattle.format.specs.Meaning.Layout.{sizeBits, countBits, netBits, headerBits, cellBits}
+use Rattle.limits.specs.Meaning.Limits.{mostLatches, mostOutputs, mostCells}
+use Rattle.limits.specs.Meaning.Layout.{sizeBits, countBits, netBits, headerBits, cellBits}
 use Rattle.netlist.specs.Meaning.Gates.{kindOf, firstOf, secondOf}
 use Rattle.netlist.specs.Meaning.Nets.{gateAt}
 use Rattle.format.specs.Meaning.Format.{cellAt, tailNet}

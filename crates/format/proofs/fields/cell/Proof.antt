@@ -1,5 +1,5 @@
 -- `cell`: a run of three fields where the cell stands.
-use Rattle.format.specs.Meaning.Layout.{kindBits}
+use Rattle.limits.specs.Meaning.Layout.{kindBits}
 use Rattle.format.specs.Meaning.Format.{cellAt}
 use Rattle.reader.proofs.Spelling.{field-lt}
 use borrow.Author.Needs.{needs}

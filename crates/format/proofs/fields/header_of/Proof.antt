@@ -1,5 +1,5 @@
 -- `header_of`: the first five fields of a run from the start on.
-use Rattle.format.specs.Meaning.Layout.{sizeBits, countBits, inputsAt, latchesAt, outputsAt, countAt}
+use Rattle.limits.specs.Meaning.Layout.{sizeBits, countBits, inputsAt, latchesAt, outputsAt, countAt}
 use Rattle.reader.proofs.Spelling.{field-lt}
 use borrow.Author.Needs.{needs}
 use Rattle.format.proofs.fields.header_of.Statement.{statement}

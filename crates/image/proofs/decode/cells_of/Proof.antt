@@ -6,7 +6,7 @@ use Rattle.memory.specs.Working.Filling.{Filled}
 use Rattle.memory.proofs.Filling.{filled-none, filled-more}
 use Rattle.netlist.specs.declared.Gate.{Gate}
 use Rattle.netlist.specs.Meaning.Gates.{blankCell}
-use Rattle.netlist.specs.Meaning.Limits.{mostCells}
+use Rattle.limits.specs.Meaning.Limits.{mostCells}
 use Rattle.format.specs.Meaning.Format.{cellIn}
 use borrow.Author.Needs.{needs}
 use Rattle.image.proofs.decode.cells_of.Statement.{statement}

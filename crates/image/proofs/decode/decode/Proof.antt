@@ -1,7 +1,7 @@
 -- `decode`: the design that is made of the entries in their places.
 use native.Mathlib.Omega.{arith}
 use Rattle.memory.proofs.Filling.{all-same}
-use Rattle.netlist.specs.Meaning.Limits.{mostLatches, mostOutputs}
+use Rattle.limits.specs.Meaning.Limits.{mostLatches, mostOutputs}
 use Rattle.format.proofs.Decoding.{made}
 use borrow.Author.Needs.{needs}
 use Rattle.image.proofs.decode.decode.Statement.{statement}

@@ -4,7 +4,7 @@ use mathlib.Core.Path.{_≡_, subst}
 use native.Mathlib.Omega.{arith}
 use Rattle.memory.specs.Working.Filling.{Filled}
 use Rattle.memory.proofs.Filling.{filled-none, filled-more}
-use Rattle.netlist.specs.Meaning.Limits.{mostCells}
+use Rattle.limits.specs.Meaning.Limits.{mostCells}
 use Rattle.netlist.specs.Meaning.Nets.{gateAt}
 use Rattle.writer.specs.Working.Packing.{cellWord}
 use borrow.Author.Needs.{needs}

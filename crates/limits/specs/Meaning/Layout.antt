@@ -5,7 +5,7 @@
 --   bitsFor g l o, bytesFor g l o             bits and bytes of an image of g cells, l flip-flops and o outputs
 --   mostBytes                                 bytes of the largest image
 use Prim.Native.Nat.{ℕ, _+_, _*_, _/_}
-use Rattle.netlist.specs.Meaning.Limits.{mostLatches, mostOutputs, mostCells}
+use Rattle.limits.specs.Meaning.Limits.{mostLatches, mostOutputs, mostCells}
 
 -- "The header is version (4 bits, value 1), inputs I (4 bits ..), flip-flops L (4 bits ..), outputs O (4 bits ..), cells G (9 bits ..)"
 abbrev pub sizeBits : ℕ

@@ -2,8 +2,8 @@
 use Prim.Native.Nat.{ℕ, _≤_}
 use mathlib.Core.Path.{_≡_, refl}
 use native.Mathlib.Omega.{arith}
-use Rattle.netlist.specs.Meaning.Limits.{mostLatches, mostOutputs, mostCells}
-use Rattle.format.specs.Meaning.Layout.{bitsFor, bytesFor, mostBytes}
+use Rattle.limits.specs.Meaning.Limits.{mostLatches, mostOutputs, mostCells}
+use Rattle.limits.specs.Meaning.Layout.{bitsFor, bytesFor, mostBytes}
 
 pub most-bits : bitsFor mostCells mostLatches mostOutputs ≡ 5536
 most-bits = refl
