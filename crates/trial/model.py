@@ -329,6 +329,7 @@ def on_one(call, design, numbers):
 
 
 DESIGNS = {"compare": 2, "tabulate_both": 2, "tabulate": 1, "write": 1, "clock": 1, "fault_of": 1}
+TAKE_NO_NUMBERS = ["fault_of", "length_of", "read"]
 OTHERS = ["length_of", "read", "map_alike", "map_alignable", "trace_of", "list_of", "judge"]
 
 
@@ -350,9 +351,10 @@ def answer(line):
         raise NoQuestion("no such call")
     designs = [design_of(words) for _ in range(DESIGNS.get(call, 0))]
     numbers = entries(words.pop(0), 65535, "numbers") if words and not words[0].startswith("x") else []
+    given = len(numbers)
     numbers += [0] * (TOO_LONG["numbers"] - len(numbers))
     data = entries(words.pop(0), 255, "bytes") if words else []
-    if words:
+    if words or (call in TAKE_NO_NUMBERS and given) or (call in DESIGNS and data):
         raise NoQuestion(SPELLED_WRONG)
     if call not in DESIGNS and call not in OTHERS:
         raise NoQuestion("no such call")

@@ -27,8 +27,7 @@ pub fn compare(
     let tabulated = simulator::tabulate_both(old, new, old_next, old_out, new_next, new_out);
     match tabulated {
         TabulatedBoth::Refused(number) => {
-            memory::clear_numbers(depth);
-            memory::clear_numbers(reach);
+            memory::clear_scratch(depth, reach);
             memory::clear_bytes(list);
             Judged {
                 verdict: Verdict::Refused(number),

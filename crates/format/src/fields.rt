@@ -4,7 +4,7 @@ ghost use Prim.Native.Nat.{_+_, _*_, _^_, _<_, _≤_};
 ghost use Rattle.limits.specs.Meaning.Layout.{countBits, netBits, bitsFor, bytesFor};
 ghost use Rattle.format.specs.Meaning.Format.{countIn, cellAt, tailIn};
 ghost use Rattle.format.specs.Working.Scanning.{SpellsHeader, Narrow, SpellsCell};
-use crate::Layout;
+use limits::Image;
 
 // The fields of the header.
 pub struct Header {

@@ -21,7 +21,7 @@ module _ (d : Design) (n m : ℕ) (none : Free (TableFault d n m)) where
 
   pub fillable : {number : ℕ} {l next out : List ℕ} → Plans d number l → Cleared n next → Cleared m out → Fillable d l next out
   fillable plan p q = record {
-    ready = record { sound = sound-table; ordered = plan .ordered (zero-number (plan .lowest) (table-accepted d n m none)) };
+    ready = record { sound = sound-table; ordered = plan .ordered (zero-number (plan .first) (table-accepted d n m none)) };
     room-next = rw (p .size) (room-next d n m none);
     room-out = rw (q .size) (room-out d n m none);
     zero-next = p .zero;

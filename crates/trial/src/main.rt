@@ -1,5 +1,5 @@
 // Puts questions to the public calls, and prints what each answers and what the slices that it writes hold then. Standard input has a
-// question a line; an empty line and one that begins with # are repeated. A question is the name of a call and then, each behind a space,
+// question a line; an empty line and one that begins with # or a space are repeated. A question is the name of a call and then, each behind a space,
 //
 //   the designs that it takes,
 //   a list of numbers,
@@ -21,8 +21,9 @@
 //   trace_of 7/4,4,4,4/4,4,1/2,2,2/0,1 0,1,0,1/0,0,1,1/0,1,0,1/0,1,0,1
 //
 // map_alignable and judge are asked as map_alike is, list_of as trace_of: behind the lengths stand S of the old design, S of the new, V,
-// and the pair; the bytes are the four tables. An answer shows each written slice behind a bar, as a list; of one with more than 64 runs of
-// one value the first 64 runs, and a sum in which an entry counts by where it stands.
+// and the pair; the bytes are the four tables. length_of and read take no list of numbers: their image stands behind an x. An answer shows
+// each written slice behind a bar, as a list, 00*0 for an empty one; of one with more than 64 runs of one value the first 64 runs, and a
+// sum in which an entry counts by where it stands.
 mod calls;
 mod designs;
 mod show;
@@ -47,6 +48,10 @@ const NUMBERS: usize = 13;
 fn main() {
     let mut all = [0u8; LINES];
     let n = io::read_full(0, &mut all);
+    if n == LINES {
+        show::word(b"NO QUESTIONS: the lines have more than 262,143 bytes\n");
+        return;
+    }
     ask_all(slices::cut(&all, 0, n));
 }
 
@@ -97,13 +102,23 @@ fn ask_call(line: &[u8]) {
     let f = words::numbers(line, new.next, &mut numbers);
     let mut bytes = [0u8; BYTES];
     let b = words::bytes(line, f.next, &mut bytes);
-    if b.next != line.len() {
+    if b.next != line.len() || !takes(call, f.len, b.len) {
         show::word(b"NO QUESTION: a word is missing, spelled wrong, too long or one too many");
         return;
     }
     let old = old.design;
     let new = new.design;
     answer(call, old, new, numbers, slices::cut(&bytes, 0, b.len));
+}
+
+// Whether a call takes so many numbers and so many bytes.
+fn takes(call: usize, numbers: usize, bytes: usize) -> bool {
+    match call {
+        calls::FAULT_OF => numbers == 0 && bytes == 0,
+        calls::LENGTH_OF | calls::READ => numbers == 0,
+        calls::COMPARE..=calls::CLOCK => bytes == 0,
+        _ => true,
+    }
 }
 
 // Puts a question.

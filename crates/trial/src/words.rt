@@ -116,12 +116,23 @@ fn opened(line: &[u8], at: usize, hex: bool) -> usize
         return 0;
     }
     if !hex {
-        return at + 1;
+        return begun(line, at + 1);
     }
     if line.len() - at < 2 {
         return 0;
     }
-    at + 2
+    begun(line, at + 2)
+}
+
+// The place at which a list begins, or 0: nothing stands before its first entry.
+fn begun(line: &[u8], at: usize) -> usize
+    requires { ⌜ at ≤ length (now line) ⌝ }
+    ensures { λ r. ⌜ r ≤ length (now (line .entry)) ⌝ }
+{
+    match byte_at(line, at) {
+        b',' | b'/' => 0,
+        _ => at,
+    }
 }
 
 // The entry at a place of a list, which is at most so much.
@@ -177,6 +188,13 @@ fn counted(line: &[u8], at: usize, hex: bool, most: usize) -> Entry
         };
     }
     let c = number_at(line, behind + 1, line.len(), 10);
+    if c.next == behind + 1 {
+        return Entry {
+            value: 0,
+            count: 0,
+            next: 0,
+        };
+    }
     Entry {
         value,
         count: c.value,

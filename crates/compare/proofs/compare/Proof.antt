@@ -10,11 +10,8 @@ tabulate-both-requires c κs = search needs
 enum-known-tabulated : tie.Need-enum-known-tabulated
 enum-known-tabulated c = search needs
 
-clear-numbers-requires : tie.Need-clear-numbers-requires
-clear-numbers-requires c κs = search needs
-
-clear-numbers-requires-2 : tie.Need-clear-numbers-requires-2
-clear-numbers-requires-2 c κs = search needs
+clear-scratch-requires : tie.Need-clear-scratch-requires
+clear-scratch-requires c κs = search needs
 
 clear-bytes-requires : tie.Need-clear-bytes-requires
 clear-bytes-requires c κs = search needs
@@ -47,7 +44,7 @@ same-length-7 : tie.Need-same-length-7
 same-length-7 c = search needs
 
 returns : tie.Need-returns
-returns c = refused-first _ _ _ _ _ _ _ _ _ _ _ _ (rw (c .before .before .before .before .before .before .before .before .before .before .before .before .before .tabulated .given .1) at (c .before .before .before .before .before .before .before .before .before .before .before .before .before .before .before .before .before .before .before .before .before .before .before .tabulate-both .ensures)) (c .before .before .before .before .before .before .before .before .before .before .clear-numbers .ensures) (c .before .before .before .before .before .before .clear-numbers2 .ensures) (c .before .before .clear-bytes .ensures)
+returns c = refused-first _ _ _ _ _ _ _ _ _ _ _ _ (rw (c .before .before .before .before .before .before .before .before .before .before .before .before .tabulated .given .1) at (c .before .before .before .before .before .before .before .before .before .before .before .before .before .before .before .before .before .before .before .before .before .before .tabulate-both .ensures)) (c .before .before .before .before .before .before .before .before .clear-scratch .ensures .0) (c .before .before .before .before .before .before .before .before .clear-scratch .ensures .1) (c .before .before .clear-bytes .ensures)
 
 same-length-8 : tie.Need-same-length-8
 same-length-8 c = search needs
@@ -79,8 +76,7 @@ compare-spec =
     (tie.spec
     tabulate-both-requires
     enum-known-tabulated
-    clear-numbers-requires
-    clear-numbers-requires-2
+    clear-scratch-requires
     clear-bytes-requires
     enum-known-tabulated-2
     judge-or-clear-requires

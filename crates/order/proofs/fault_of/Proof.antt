@@ -7,7 +7,7 @@ levelize-requires : tie.Need-levelize-requires
 levelize-requires c κs = search needs
 
 returns : tie.Need-returns
-returns c = c .levelize .ensures .lowest
+returns c = c .levelize .ensures .first
 
 pub fault-of-spec : {M : Type 1} → statement M
 fault-of-spec = tie.close (tie.spec levelize-requires returns)

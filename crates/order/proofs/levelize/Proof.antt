@@ -26,7 +26,7 @@ no-plan-requires c κs = search needs
 refusal : {d : Design} {number : ℕ} {l : List ℕ} (n : ℕ) → (n ≡ 0 → ⊥) → (number ≡ n) × Zero l → FirstOrNone (DesignFault d) n → Plans d number l
 refusal {d} {number} {l} n z w f =
     let number-zero : number ≡ 0 → ⊥ = λ e. z (sym (w .0) ∙ e) in
-    record { lowest = rw (w .0) f; ordered = λ e. absurd (number-zero e); beyond = λ e. absurd (number-zero e); refused = λ _. w .1 }
+    record { first = rw (w .0) f; ordered = λ e. absurd (number-zero e); beyond = λ e. absurd (number-zero e); refused = λ _. w .1 }
 
 returns : tie.Need-returns
 returns c = refusal 3 (λ e. omega arith) (c .no-plan .ensures) (lowest-3 (rw (c .before .if1 .taken) at (c .before .before .over-limit .ensures)))
@@ -62,7 +62,7 @@ returns-4 c =
     let e : c .before .before .before .before .place .result .placed ≡ c .before .before .before .before .before .before .before .before .before .args .d .count = omega (arith, c .before .before .before .before .place .ensures .few, c .before .if3 .left) in
     let o = c .before .before .before .before .place .ensures .whole e in
     record {
-      lowest = no-number (accepted-of (rw (c .before .before .before .before .before .before .before .if1 .left) at (c .before .before .before .before .before .before .before .before .over-limit .ensures)) (rw (c .before .before .before .before .before .if2 .left) at (c .before .before .before .before .before .before .net-over .ensures)) (order-free _ _ o));
+      first = no-number (accepted-of (rw (c .before .before .before .before .before .before .before .if1 .left) at (c .before .before .before .before .before .before .before .before .over-limit .ensures)) (rw (c .before .before .before .before .before .if2 .left) at (c .before .before .before .before .before .before .net-over .ensures)) (order-free _ _ o));
       ordered = λ _. o;
       beyond = λ _. rw e at (c .before .before .before .before .place .ensures .beyond);
       refused = λ z. absurd (z refl);

@@ -2,7 +2,7 @@
 --   Earlier d l k n    net n is driven by no cell, or by one of the first k of the list l
 --   Runs d l n         of the 256 entries of l the first n are cells, and each reads only nets that are driven earlier
 --   Ordered d l        the first G entries of l are all cells, in such an order
---   Plans d n l        n is the lowest number that applies to the design d, 0 for none, and l an order of its cells
+--   Plans d n l        n is the first number that applies to the design d, 0 for none, and l an order of its cells
 use Prim.Native.Nat.{ℕ, _+_, _<_}
 use mathlib.Core.Path.{_≡_}
 use mathlib.Core.Logic.{_⊎_}
@@ -31,7 +31,7 @@ pub record Ordered (d : Design) (l : List ℕ) : Type 0 where
 
 -- an order where no number applies, zero beyond it; beside a number no cells
 pub record Plans (d : Design) (number : ℕ) (l : List ℕ) : Type 0 where
-  pub lowest : FirstOrNone (DesignFault d) number
+  pub first : FirstOrNone (DesignFault d) number
   pub ordered : number ≡ 0 → Ordered d l
   pub beyond : number ≡ 0 → ZeroFrom (d .count) l
   pub refused : (number ≡ 0 → ⊥) → Zero l

@@ -11,26 +11,26 @@ levelize-requires : tie.Need-levelize-requires
 levelize-requires c κs = search needs
 
 returns : tie.Need-returns
-returns c = record { keeps = (clock-design _ _ _ (c .before .before .levelize .ensures .lowest .some (c .if1 .taken)), tt) }
+returns c = record { keeps = (clock-design _ _ _ (c .before .before .levelize .ensures .first .some (c .if1 .taken)), tt) }
 
 power-requires : tie.Need-power-requires
-power-requires c κs = omega (arith, sound-of (c .before .before .levelize .ensures .lowest .none (c .if1 .left)) .few-latches)
+power-requires c κs = omega (arith, sound-of (c .before .before .levelize .ensures .first .none (c .if1 .left)) .few-latches)
 
 returns-2 : tie.Need-returns-2
-returns-2 c = record { keeps = (clock-14 _ _ _ (c .before .before .before .before .levelize .ensures .lowest .none (c .before .before .if1 .left)) (ClockFault.state (rw (c .before .power .ensures .0) at (c .if2 .taken))), tt) }
+returns-2 c = record { keeps = (clock-14 _ _ _ (c .before .before .before .before .levelize .ensures .first .none (c .before .before .if1 .left)) (ClockFault.state (rw (c .before .power .ensures .0) at (c .if2 .taken))), tt) }
 
 power-requires-2 : tie.Need-power-requires-2
-power-requires-2 c κs = omega (arith, sound-of (c .before .before .before .before .levelize .ensures .lowest .none (c .before .before .if1 .left)) .few-inputs)
+power-requires-2 c κs = omega (arith, sound-of (c .before .before .before .before .levelize .ensures .first .none (c .before .before .if1 .left)) .few-inputs)
 
 returns-3 : tie.Need-returns-3
-returns-3 c = record { keeps = (clock-14 _ _ _ (c .before .before .before .before .before .before .levelize .ensures .lowest .none (c .before .before .before .before .if1 .left)) (ClockFault.vector (rw (c .before .power2 .ensures .0) at (c .if3 .taken))), tt) }
+returns-3 c = record { keeps = (clock-14 _ _ _ (c .before .before .before .before .before .before .levelize .ensures .first .none (c .before .before .before .before .if1 .left)) (ClockFault.vector (rw (c .before .power2 .ensures .0) at (c .if3 .taken))), tt) }
 
 step-requires : tie.Need-step-requires
-step-requires c κs = record { sound = sound-of (c .before .before .before .before .before .before .before .levelize .ensures .lowest .none (c .before .before .before .before .before .if1 .left)); ordered = c .before .before .before .before .before .before .before .levelize .ensures .ordered (c .before .before .before .before .before .if1 .left) }
+step-requires c κs = record { sound = sound-of (c .before .before .before .before .before .before .before .levelize .ensures .first .none (c .before .before .before .before .before .if1 .left)); ordered = c .before .before .before .before .before .before .before .levelize .ensures .ordered (c .before .before .before .before .before .if1 .left) }
 
 returns-4 : tie.Need-returns-4
 returns-4 c =
-    let none = c .before .before .before .before .before .before .before .before .levelize .ensures .lowest .none (c .before .before .before .before .before .before .if1 .left) in
+    let none = c .before .before .before .before .before .before .before .before .levelize .ensures .first .none (c .before .before .before .before .before .before .if1 .left) in
     record {
       keeps = (clock-free _ _ _ none (rw (c .before .before .before .before .before .power .ensures .0) at (c .before .before .before .before .if2 .left)) (rw (c .before .before .before .power2 .ensures .0) at (c .before .before .if3 .left)), record { next = c .step .ensures .0; out = c .step .ensures .1 });
     }
