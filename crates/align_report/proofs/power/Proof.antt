@@ -5,11 +5,8 @@ use borrow.Author.Needs.{needs}
 use Rattle.align_report.proofs.power.Statement.{statement}
 use Rattle.align_report.proofs.power.Tie as tie
 
-shl-result : tie.Need-shl-result
-shl-result c = search needs
-
 returns : tie.Need-returns
 returns c = omega (arith, pow-mono {i = c .args .n} {j = 7} (omega arith))
 
 pub power-spec : {M : Type 1} → statement M
-power-spec = tie.close (tie.spec shl-result returns)
+power-spec = tie.close (tie.spec (λ c. search needs) returns)

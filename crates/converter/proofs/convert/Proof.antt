@@ -8,26 +8,11 @@ use borrow.Author.Needs.{needs}
 use Rattle.converter.proofs.convert.Statement.{statement}
 use Rattle.converter.proofs.convert.Tie as tie
 
-slice-aggregate-put-word : tie.Need-slice-aggregate-put-word
-slice-aggregate-put-word c = search needs
-
-put-word-requires : tie.Need-put-word-requires
-put-word-requires c κs = search needs
-
-same-length : tie.Need-same-length
-same-length c = search needs
-
 returns : tie.Need-returns
 returns c = turned-away (omega (arith, length-take-le (c .before .before .before .before .before .before .before .before .args .n) (c .before .before .before .before .before .before .before .before .args .room .now) (c .before .before .before .before .before .before .before .before .pre .1), c .before .before .before .before .before .if1 .taken)) (put-printed (c .before .before .put-word .ensures) (omega (arith, c .before .before .before .before .before .before .before .before .pre .2)))
 
 slice-aggregate-read : tie.Need-slice-aggregate-read
 slice-aggregate-read c = sym (length-take-le (c .before .before .before .before .args .n) (c .before .before .before .before .args .room .now) (c .before .before .before .before .pre .1))
-
-read-requires : tie.Need-read-requires
-read-requires c κs = search needs
-
-enum-known-answer : tie.Need-enum-known-answer
-enum-known-answer c = search needs
 
 enum-told : tie.Need-enum-told
 enum-told c = search needs
@@ -35,23 +20,8 @@ enum-told c = search needs
 put-image-requires : tie.Need-put-image-requires
 put-image-requires c κs = (read-accepted (c .before .before .before .before .read .ensures) (c .before .before .enum-told .given .1), c .before .before .before .before .before .before .before .before .before .pre .2)
 
-same-length-2 : tie.Need-same-length-2
-same-length-2 c = search needs
-
 returns-2 : tie.Need-returns-2
 returns-2 c = image-written (c .before .before .before .before .before .before .before .read .ensures) (omega (arith, length-take-le (c .before .before .before .before .before .before .before .before .before .before .before .before .args .n) (c .before .before .before .before .before .before .before .before .before .before .before .before .args .room .now) (c .before .before .before .before .before .before .before .before .before .before .before .before .pre .1), c .before .before .before .before .before .before .before .before .before .if1 .left)) (c .before .before .before .before .before .enum-told .given .1) (c .before .before .put-image .ensures)
-
-slice-aggregate-put-last-field : tie.Need-slice-aggregate-put-last-field
-slice-aggregate-put-last-field c = search needs
-
-wide-requires : tie.Need-wide-requires
-wide-requires c κs = search needs
-
-put-last-field-requires : tie.Need-put-last-field-requires
-put-last-field-requires c κs = search needs
-
-same-length-3 : tie.Need-same-length-3
-same-length-3 c = search needs
 
 returns-3 : tie.Need-returns-3
 returns-3 c = refusal-written (c .before .before .before .before .before .before .before .before .before .read .ensures) (omega (arith, length-take-le (c .before .before .before .before .before .before .before .before .before .before .before .before .before .before .args .n) (c .before .before .before .before .before .before .before .before .before .before .before .before .before .before .args .room .now) (c .before .before .before .before .before .before .before .before .before .before .before .before .before .before .pre .1), c .before .before .before .before .before .before .before .before .before .before .before .if1 .left)) (c .before .before .before .before .before .before .before .answer .given .1) (rw (c .before .before .before .before .wide .ensures .0) at (put-printed (c .before .before .put-last-field .ensures) (omega arith)))
@@ -60,19 +30,19 @@ pub convert-spec : {M : Type 1} → statement M
 convert-spec =
     tie.close
     (tie.spec
-    slice-aggregate-put-word
-    put-word-requires
-    same-length
+    (λ c. search needs)
+    (λ c κs. search needs)
+    (λ c. search needs)
     returns
     slice-aggregate-read
-    read-requires
-    enum-known-answer
+    (λ c κs. search needs)
+    (λ c. search needs)
     enum-told
     put-image-requires
-    same-length-2
+    (λ c. search needs)
     returns-2
-    slice-aggregate-put-last-field
-    wide-requires
-    put-last-field-requires
-    same-length-3
+    (λ c. search needs)
+    (λ c κs. search needs)
+    (λ c κs. search needs)
+    (λ c. search needs)
     returns-3)

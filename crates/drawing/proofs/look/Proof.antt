@@ -15,41 +15,11 @@ Inv-loop d nets count marks₀ r₀ marks r = (r ≤ count) × Looked d r marks
 abbrev μ-loop : tie.MeasureT-loop
 μ-loop d nets count marks₀ r₀ marks r = count - r
 
-add-count : tie.Need-add-count Inv-loop μ-loop
-add-count c = search needs
-
-add-count-2 : tie.Need-add-count-2 Inv-loop μ-loop
-add-count-2 c = search needs
-
-add-count-3 : tie.Need-add-count-3 Inv-loop μ-loop
-add-count-3 c = search needs
-
 loop-holds : tie.Need-loop-holds Inv-loop μ-loop
 loop-holds c = (search needs, looked-none (c .before .before .before .args .d))
 
-read-literal-requires : tie.Need-read-literal-requires Inv-loop μ-loop
-read-literal-requires c κs = search needs
-
-mul-if1 : tie.Need-mul-if1 Inv-loop μ-loop
-mul-if1 c = search needs
-
-mul-if1-2 : tie.Need-mul-if1-2 Inv-loop μ-loop
-mul-if1-2 c = search needs
-
-array-read-if1 : tie.Need-array-read-if1 Inv-loop μ-loop
-array-read-if1 c = search needs
-
 returns : tie.Need-returns Inv-loop μ-loop
 returns c = looks-wrong (not-driven (c .before .before .before .before .before .before .before .before .pre .1) (c .before .before .before .before .loop .r) (c .before .before .read-literal .result) (c .before .before .before .loop-test .taken) (c .before .before .read-literal .ensures .0) (omega arith) (c .before .if1 .taken))
-
-array-write-marks : tie.Need-array-write-marks Inv-loop μ-loop
-array-write-marks c = search needs
-
-add-r : tie.Need-add-r Inv-loop μ-loop
-add-r c = search needs
-
-loop-less : tie.Need-loop-less Inv-loop μ-loop
-loop-less c = search needs
 
 loop-again : tie.Need-loop-again Inv-loop μ-loop
 loop-again c =
@@ -72,17 +42,17 @@ look-spec =
     (tie.spec
     Inv-loop
     μ-loop
-    add-count
-    add-count-2
-    add-count-3
+    (λ c. search needs)
+    (λ c. search needs)
+    (λ c. search needs)
     loop-holds
-    read-literal-requires
-    mul-if1
-    mul-if1-2
-    array-read-if1
+    (λ c κs. search needs)
+    (λ c. search needs)
+    (λ c. search needs)
+    (λ c. search needs)
     returns
-    array-write-marks
-    add-r
-    loop-less
+    (λ c. search needs)
+    (λ c. search needs)
+    (λ c. search needs)
     loop-again
     returns-2)

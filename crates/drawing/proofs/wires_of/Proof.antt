@@ -5,12 +5,6 @@ use borrow.Author.Needs.{needs}
 use Rattle.drawing.proofs.wires_of.Statement.{statement}
 use Rattle.drawing.proofs.wires_of.Tie as tie
 
-drive-requires : tie.Need-drive-requires
-drive-requires c κs = search needs
-
-undriven-requires : tie.Need-undriven-requires
-undriven-requires c κs = search needs
-
 returns : tie.Need-returns
 returns c =
     let t = c .before .before .before .drive .ensures .wrong (c .before .if1 .taken) in
@@ -18,9 +12,6 @@ returns c =
 
 look-requires : tie.Need-look-requires
 look-requires c κs = (c .before .before .before .pre, c .before .before .drive .ensures .right (c .if1 .left))
-
-undriven-requires-2 : tie.Need-undriven-requires-2
-undriven-requires-2 c κs = search needs
 
 returns-2 : tie.Need-returns-2
 returns-2 c = undriven-wires (c .undriven2 .ensures) (c .before .before .look .ensures .wrong (c .before .if2 .taken))
@@ -38,11 +29,11 @@ pub wires-of-spec : {M : Type 1} → statement M
 wires-of-spec =
     tie.close
     (tie.spec
-    drive-requires
-    undriven-requires
+    (λ c κs. search needs)
+    (λ c κs. search needs)
     returns
     look-requires
-    undriven-requires-2
+    (λ c κs. search needs)
     returns-2
     invert-requires
     returns-3)

@@ -6,20 +6,11 @@ use borrow.Author.Needs.{needs}
 use Rattle.elaborate.proofs.design_of.Statement.{statement}
 use Rattle.elaborate.proofs.design_of.Tie as tie
 
-wires-of-requires : tie.Need-wires-of-requires
-wires-of-requires c κs = search needs
-
-refusal-requires : tie.Need-refusal-requires
-refusal-requires c κs = search needs
-
 returns : tie.Need-returns
 returns c = draws-18 (c .before .before .before .wires-of .ensures .wrong (not-true _ (c .before .if1 .taken))) (c .refusal .ensures .0) (c .refusal .ensures .1)
 
 add-if2 : tie.Need-add-if2
 add-if2 c = omega (arith, c .before .before .before .before .wires-of .ensures .wired (not-false _ (c .before .before .if1 .left)) .few, c .before .before .before .before .before .pre .few-variables, c .before .before .before .before .before .pre .few-ands)
-
-refusal-requires-2 : tie.Need-refusal-requires-2
-refusal-requires-2 c κs = search needs
 
 returns-2 : tie.Need-returns-2
 returns-2 c =
@@ -28,12 +19,6 @@ returns-2 c =
 
 assembled-requires : tie.Need-assembled-requires
 assembled-requires c κs = (c .before .before .before .before .before .before .pre, c .before .before .before .before .before .wires-of .ensures .wired (not-false _ (c .before .before .before .if1 .left)), omega (arith, c .if2 .left))
-
-fault-of-requires : tie.Need-fault-of-requires
-fault-of-requires c κs = search needs
-
-refusal-requires-3 : tie.Need-refusal-requires-3
-refusal-requires-3 c κs = search needs
 
 returns-3 : tie.Need-returns-3
 returns-3 c =
@@ -49,14 +34,14 @@ pub design-of-spec : {M : Type 1} → statement M
 design-of-spec =
     tie.close
     (tie.spec
-    wires-of-requires
-    refusal-requires
+    (λ c κs. search needs)
+    (λ c κs. search needs)
     returns
     add-if2
-    refusal-requires-2
+    (λ c κs. search needs)
     returns-2
     assembled-requires
-    fault-of-requires
-    refusal-requires-3
+    (λ c κs. search needs)
+    (λ c κs. search needs)
     returns-3
     returns-4)

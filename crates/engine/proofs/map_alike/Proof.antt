@@ -4,18 +4,6 @@ use borrow.Author.Needs.{needs}
 use Rattle.engine.proofs.map_alike.Statement.{statement}
 use Rattle.engine.proofs.map_alike.Tie as tie
 
-begin-map-requires : tie.Need-begin-map-requires
-begin-map-requires c κs = search needs
-
-same-length : tie.Need-same-length
-same-length c = search needs
-
-same-length-2 : tie.Need-same-length-2
-same-length-2 c = search needs
-
-same-length-3 : tie.Need-same-length-3
-same-length-3 c = search needs
-
 returns : tie.Need-returns
 returns c = record {
   keeps = (c .before .before .before .before .before .before .before .begin-map .ensures .0 .some (c .if1 .taken), c .before .before .before .before .before .before .before .begin-map .ensures .1 .written .zero);
@@ -27,15 +15,6 @@ mark-alike-requires c κs =
     let e = c .before .before .before .before .before .before .before .before .before .before .begin-map .ensures .1 in
     (rw (e .depth .size, e .reach .size, e .written .size) (c .before .before .before .before .before .before .before .before .before .before .begin-map .ensures .0 .none (c .before .before .before .if1 .left)), e .written .zero)
 
-same-length-4 : tie.Need-same-length-4
-same-length-4 c = search needs
-
-same-length-5 : tie.Need-same-length-5
-same-length-5 c = search needs
-
-same-length-6 : tie.Need-same-length-6
-same-length-6 c = search needs
-
 returns-2 : tie.Need-returns-2
 returns-2 c = let e = c .before .before .before .before .before .before .before .before .before .before .before .before .before .before .before .before .before .begin-map .ensures .1 in rw (e .depth .size, e .reach .size, e .written .size) at (c .before .before .before .before .before .before .mark-alike .ensures)
 
@@ -43,13 +22,13 @@ pub map-alike-spec : {M : Type 1} → statement M
 map-alike-spec =
     tie.close
     (tie.spec
-    begin-map-requires
-    same-length
-    same-length-2
-    same-length-3
+    (λ c κs. search needs)
+    (λ c. search needs)
+    (λ c. search needs)
+    (λ c. search needs)
     returns
     mark-alike-requires
-    same-length-4
-    same-length-5
-    same-length-6
+    (λ c. search needs)
+    (λ c. search needs)
+    (λ c. search needs)
     returns-2)

@@ -5,9 +5,6 @@ use borrow.Author.Needs.{needs}
 use Rattle.engine.proofs.pair_fault.Statement.{statement}
 use Rattle.engine.proofs.pair_fault.Tie as tie
 
-call-fault-requires : tie.Need-call-fault-requires
-call-fault-requires c κs = search needs
-
 returns : tie.Need-returns
 returns c = at-call (c .if1 .taken) (c .before .call-fault .ensures)
 
@@ -21,4 +18,4 @@ returns-4 : tie.Need-returns-4
 returns-4 c = at-none (c .before .before .before .before .before .before .before .call-fault .ensures .none (c .before .before .before .before .before .before .if1 .left)) (record { in-old = c .before .before .before .if2 .left; in-new = c .if3 .left })
 
 pub pair-fault-spec : {M : Type 1} → statement M
-pair-fault-spec = tie.close (tie.spec call-fault-requires returns returns-2 returns-3 returns-4)
+pair-fault-spec = tie.close (tie.spec (λ c κs. search needs) returns returns-2 returns-3 returns-4)

@@ -4,24 +4,9 @@ use Rattle.seek.proofs.Lists.{ready, outcome}
 use Rattle.engine.proofs.write_list.Statement.{statement}
 use Rattle.engine.proofs.write_list.Tie as tie
 
-map-both-requires : tie.Need-map-both-requires
-map-both-requires c κs = search needs
-
 find-list-requires : tie.Need-find-list-requires
 find-list-requires c κs =
     (record { nexts = c .before .before .before .before .before .before .before .before .before .before .before .before .before .before .before .before .pre .0 .nexts; room = search needs }, (ready _ (c .before .before .before .before .before .before .before .before .before .before .before .before .before .before .before .before .pre .0) (c .before .before .before .before .before .before .map-both .ensures .0 .alike), c .before .before .before .before .before .before .before .before .before .before .before .before .before .before .before .before .pre .1 .1))
-
-clear-scratch-requires : tie.Need-clear-scratch-requires
-clear-scratch-requires c κs = search needs
-
-same-length : tie.Need-same-length
-same-length c = search needs
-
-same-length-2 : tie.Need-same-length-2
-same-length-2 c = search needs
-
-same-length-3 : tie.Need-same-length-3
-same-length-3 c = search needs
 
 returns : tie.Need-returns
 returns c = (outcome _ (c .before .before .before .before .before .before .before .before .before .before .before .before .before .before .before .before .before .before .before .before .before .before .before .before .before .before .pre .0) (c .before .before .before .before .before .before .before .before .before .before .before .before .before .before .before .before .map-both .ensures .0 .alike) _ (c .before .before .before .before .before .before .before .before .before .before .before .before .before .before .before .before .before .before .before .before .before .before .before .before .before .before .pre .1 .1) (c .before .before .before .before .before .before .before .before .before .find-list .ensures), (search needs, search needs))
@@ -30,10 +15,10 @@ pub write-list-spec : {M : Type 1} → statement M
 write-list-spec =
     tie.close
     (tie.spec
-    map-both-requires
+    (λ c κs. search needs)
     find-list-requires
-    clear-scratch-requires
-    same-length
-    same-length-2
-    same-length-3
+    (λ c κs. search needs)
+    (λ c. search needs)
+    (λ c. search needs)
+    (λ c. search needs)
     returns)

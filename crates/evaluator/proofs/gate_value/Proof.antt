@@ -8,27 +8,6 @@ use borrow.Author.Needs.{needs}
 use Rattle.evaluator.proofs.gate_value.Statement.{statement}
 use Rattle.evaluator.proofs.gate_value.Tie as tie
 
-kind-of-requires : tie.Need-kind-of-requires
-kind-of-requires c κs = search needs
-
-first-of-requires : tie.Need-first-of-requires
-first-of-requires c κs = search needs
-
-cast-a : tie.Need-cast-a
-cast-a c = search needs
-
-element-copy-out-a : tie.Need-element-copy-out-a
-element-copy-out-a c = search needs
-
-second-of-requires : tie.Need-second-of-requires
-second-of-requires c κs = search needs
-
-cast-b : tie.Need-cast-b
-cast-b c = search needs
-
-element-copy-out-b : tie.Need-element-copy-out-b
-element-copy-out-b c = search needs
-
 sub-result : tie.Need-sub-result
 sub-result c = omega (arith, c .before .before .before .before .before .before .pre .2 (c .before .before .before .before .first-of .result))
 
@@ -56,13 +35,13 @@ pub gate-value-spec : {M : Type 1} → statement M
 gate-value-spec =
     tie.close
     (tie.spec
-    kind-of-requires
-    first-of-requires
-    cast-a
-    element-copy-out-a
-    second-of-requires
-    cast-b
-    element-copy-out-b
+    (λ c κs. search needs)
+    (λ c κs. search needs)
+    (λ c. search needs)
+    (λ c. search needs)
+    (λ c κs. search needs)
+    (λ c. search needs)
+    (λ c. search needs)
     sub-result
     two-requires
     returns

@@ -17,30 +17,6 @@ abbrev μ-loop : tie.MeasureT-loop
 loop-holds : tie.Need-loop-holds Inv-loop μ-loop
 loop-holds c = (search needs, spread-none _ _ _ _)
 
-add-weight : tie.Need-add-weight Inv-loop μ-loop
-add-weight c = search needs
-
-sub-weight : tie.Need-sub-weight Inv-loop μ-loop
-sub-weight c = search needs
-
-shr-vals : tie.Need-shr-vals Inv-loop μ-loop
-shr-vals c = search needs
-
-cast-vals : tie.Need-cast-vals Inv-loop μ-loop
-cast-vals c = search needs
-
-add-vals : tie.Need-add-vals Inv-loop μ-loop
-add-vals c = search needs
-
-element-write-vals : tie.Need-element-write-vals Inv-loop μ-loop
-element-write-vals c = search needs
-
-add-j : tie.Need-add-j Inv-loop μ-loop
-add-j c = search needs
-
-loop-less : tie.Need-loop-less Inv-loop μ-loop
-loop-less c = search needs
-
 loop-again : tie.Need-loop-again Inv-loop μ-loop
 loop-again c =
     let a = c .before .before .args in
@@ -61,13 +37,13 @@ spread-spec =
     Inv-loop
     μ-loop
     loop-holds
-    add-weight
-    sub-weight
-    shr-vals
-    cast-vals
-    add-vals
-    element-write-vals
-    add-j
-    loop-less
+    (λ c. search needs)
+    (λ c. search needs)
+    (λ c. search needs)
+    (λ c. search needs)
+    (λ c. search needs)
+    (λ c. search needs)
+    (λ c. search needs)
+    (λ c. search needs)
     loop-again
     returns)

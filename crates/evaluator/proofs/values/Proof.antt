@@ -13,35 +13,8 @@ Inv-loop s v d cells base count vals₀ k₀ vals k = (k ≤ count) × Swept d s
 abbrev μ-loop : tie.MeasureT-loop
 μ-loop s v d cells base count vals₀ k₀ vals k = count - k
 
-cast-base : tie.Need-cast-base Inv-loop μ-loop
-cast-base c = search needs
-
-add-base : tie.Need-add-base Inv-loop μ-loop
-add-base c = search needs
-
-cast-base-2 : tie.Need-cast-base-2 Inv-loop μ-loop
-cast-base-2 c = search needs
-
-add-base-2 : tie.Need-add-base-2 Inv-loop μ-loop
-add-base-2 c = search needs
-
-cast-count : tie.Need-cast-count Inv-loop μ-loop
-cast-count c = search needs
-
-sources-requires : tie.Need-sources-requires Inv-loop μ-loop
-sources-requires c κs = search needs
-
 loop-holds : tie.Need-loop-holds Inv-loop μ-loop
 loop-holds c = (search needs, swept-none (c .before .args .t1) (c .before .args .s) (c .before .args .v) (c .before .args .t2) (c .sources .result) (c .sources .ensures))
-
-mul-i : tie.Need-mul-i Inv-loop μ-loop
-mul-i c = search needs
-
-array-read-i : tie.Need-array-read-i Inv-loop μ-loop
-array-read-i c = search needs
-
-cast-i : tie.Need-cast-i Inv-loop μ-loop
-cast-i c = search needs
 
 mul-c : tie.Need-mul-c Inv-loop μ-loop
 mul-c c = omega (arith, c .before .before .before .pre .ordered .runs .cell (c .before .loop .k) (omega arith))
@@ -60,12 +33,6 @@ add-vals c = omega (arith, c .before .before .before .before .before .before .pr
 
 array-write-vals : tie.Need-array-write-vals Inv-loop μ-loop
 array-write-vals c = omega (arith, c .before .before .before .before .before .before .pre .ordered .runs .cell (c .before .before .before .before .loop .k) (omega arith))
-
-add-k : tie.Need-add-k Inv-loop μ-loop
-add-k c = search needs
-
-loop-less : tie.Need-loop-less Inv-loop μ-loop
-loop-less c = search needs
 
 loop-again : tie.Need-loop-again Inv-loop μ-loop
 loop-again c =
@@ -86,22 +53,22 @@ values-spec =
     (tie.spec
     Inv-loop
     μ-loop
-    cast-base
-    add-base
-    cast-base-2
-    add-base-2
-    cast-count
-    sources-requires
+    (λ c. search needs)
+    (λ c. search needs)
+    (λ c. search needs)
+    (λ c. search needs)
+    (λ c. search needs)
+    (λ c κs. search needs)
     loop-holds
-    mul-i
-    array-read-i
-    cast-i
+    (λ c. search needs)
+    (λ c. search needs)
+    (λ c. search needs)
     mul-c
     element-copy-out-c
     gate-value-requires
     add-vals
     array-write-vals
-    add-k
-    loop-less
+    (λ c. search needs)
+    (λ c. search needs)
     loop-again
     returns)

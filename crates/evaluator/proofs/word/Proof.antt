@@ -20,9 +20,6 @@ loop-holds : tie.Need-loop-holds Inv-loop μ-loop
 unfolding horner
 loop-holds c = (search needs, refl)
 
-net-at-requires : tie.Need-net-at-requires Inv-loop μ-loop
-net-at-requires c κs = search needs
-
 mul-r : tie.Need-mul-r Inv-loop μ-loop
 mul-r c =
     let a = c .before .before .before .before .args in
@@ -37,12 +34,6 @@ add-r c =
     let a = c .before .before .before .before .before .args in
     let l = c .before .before .before .loop in
     omega (arith, horner-room (λ i. getD (a .vals .now) (getD (a .nets .now) i 0) 0) (l .k) (λ i. c .before .before .before .before .before .pre .bits (getD (a .nets .now) i 0)) (omega (arith, c .before .before .before .before .before .pre .few)), l .inv .1, c .before .before .before .before .before .pre .bits (c .before .net-at .result))
-
-add-k : tie.Need-add-k Inv-loop μ-loop
-add-k c = search needs
-
-loop-less : tie.Need-loop-less Inv-loop μ-loop
-loop-less c = search needs
 
 loop-again : tie.Need-loop-again Inv-loop μ-loop
 unfolding horner
@@ -64,11 +55,11 @@ word-spec =
     Inv-loop
     μ-loop
     loop-holds
-    net-at-requires
+    (λ c κs. search needs)
     mul-r
     element-copy-out-r
     add-r
-    add-k
-    loop-less
+    (λ c. search needs)
+    (λ c. search needs)
     loop-again
     returns)

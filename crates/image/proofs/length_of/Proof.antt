@@ -5,21 +5,12 @@ use borrow.Author.Needs.{needs}
 use Rattle.image.proofs.length_of.Statement.{statement}
 use Rattle.image.proofs.length_of.Tie as tie
 
-header-of-requires : tie.Need-header-of-requires
-header-of-requires c κs = search needs
-
-header-fault-requires : tie.Need-header-fault-requires
-header-fault-requires c κs = search needs
-
 returns : tie.Need-returns
 returns c = record { keeps = (c .before .header-fault .ensures _ refl (c .before .before .header-of .ensures) .some (c .if1 .taken), tt) }
-
-bytes-requires : tie.Need-bytes-requires
-bytes-requires c κs = search needs
 
 returns-2 : tie.Need-returns-2
 returns-2 c = record { keeps = (c .before .before .header-fault .ensures _ refl (c .before .before .before .header-of .ensures) .none (c .before .if1 .left), c .bytes .ensures .0 ∙ bytes-in (c .before .before .before .header-of .ensures)) }
 
 pub length-of-spec : {M : Type 1} → statement M
 length-of-spec =
-    tie.close (tie.spec header-of-requires header-fault-requires returns bytes-requires returns-2)
+    tie.close (tie.spec (λ c κs. search needs) (λ c κs. search needs) returns (λ c κs. search needs) returns-2)

@@ -6,29 +6,14 @@ use borrow.Author.Needs.{needs}
 use Rattle.image.proofs.read.Statement.{statement}
 use Rattle.image.proofs.read.Tie as tie
 
-header-of-requires : tie.Need-header-of-requires
-header-of-requires c κs = search needs
-
-header-fault-requires : tie.Need-header-fault-requires
-header-fault-requires c κs = search needs
-
-refusal-requires : tie.Need-refusal-requires
-refusal-requires c κs = search needs
-
 returns : tie.Need-returns
 returns c = turned-head _ _ (c .refusal .result) (c .before .if1 .taken) (c .before .before .header-fault .ensures _ refl (c .before .before .before .header-of .ensures)) (c .refusal .ensures .0) (c .refusal .ensures .1)
 
 decode-requires : tie.Need-decode-requires
 decode-requires c κs = (c .before .before .header-of .ensures, within-limits (c .before .header-fault .ensures _ refl (c .before .before .header-of .ensures) .none (c .if1 .left)))
 
-fault-of-requires : tie.Need-fault-of-requires
-fault-of-requires c κs = search needs
-
 field-fault-requires : tie.Need-field-fault-requires
 field-fault-requires c κs = (c .before .before .before .before .header-of .ensures, (c .before .before .before .header-fault .ensures _ refl (c .before .before .before .before .header-of .ensures) .none (c .before .before .if1 .left), rw (c .before .decode .ensures) at (c .fault-of .ensures)))
-
-refusal-requires-2 : tie.Need-refusal-requires-2
-refusal-requires-2 c κs = search needs
 
 returns-2 : tie.Need-returns-2
 returns-2 c = turned-away _ _ (c .refusal2 .result) (c .before .if2 .taken) (c .before .before .field-fault .ensures) (c .refusal2 .ensures .0) (c .refusal2 .ensures .1)
@@ -40,13 +25,13 @@ pub read-spec : {M : Type 1} → statement M
 read-spec =
     tie.close
     (tie.spec
-    header-of-requires
-    header-fault-requires
-    refusal-requires
+    (λ c κs. search needs)
+    (λ c κs. search needs)
+    (λ c κs. search needs)
     returns
     decode-requires
-    fault-of-requires
+    (λ c κs. search needs)
     field-fault-requires
-    refusal-requires-2
+    (λ c κs. search needs)
     returns-2
     returns-3)

@@ -20,12 +20,6 @@ abbrev μ-loop : tie.MeasureT-loop
 loop-holds : tie.Need-loop-holds Inv-loop μ-loop
 loop-holds c = passed-none _ _ (c .before .pre)
 
-shared-slice-read-c : tie.Need-shared-slice-read-c Inv-loop μ-loop
-shared-slice-read-c c = search needs
-
-is-digit-requires : tie.Need-is-digit-requires Inv-loop μ-loop
-is-digit-requires c κs = search needs
-
 returns : tie.Need-returns Inv-loop μ-loop
 returns c = scanned (c .before .before .before .before .loop .inv) (search needs) (sym (c .before .is-digit .ensures) ∙ not-true _ (c .if1 .taken))
 
@@ -35,17 +29,8 @@ mul-n c = omega arith
 sub-wide : tie.Need-sub-wide Inv-loop μ-loop
 sub-wide c = digit-low _ (sym (c .before .before .is-digit .ensures) ∙ not-false _ (c .before .if1 .left))
 
-wide-requires : tie.Need-wide-requires Inv-loop μ-loop
-wide-requires c κs = search needs
-
 add-n : tie.Need-add-n Inv-loop μ-loop
 add-n c = omega (arith, c .wide .ensures, digit-high (getD (c .before .before .before .before .before .before .before .before .args .text .now) (c .before .before .before .before .before .before .loop .i) 0) (sym (c .before .before .before .is-digit .ensures) ∙ not-false _ (c .before .before .if1 .left)))
-
-add-i : tie.Need-add-i Inv-loop μ-loop
-add-i c = search needs
-
-loop-less : tie.Need-loop-less Inv-loop μ-loop
-loop-less c = search needs
 
 loop-again : tie.Need-loop-again Inv-loop μ-loop
 loop-again c =
@@ -66,14 +51,14 @@ digits-spec =
     Inv-loop
     μ-loop
     loop-holds
-    shared-slice-read-c
-    is-digit-requires
+    (λ c. search needs)
+    (λ c κs. search needs)
     returns
     mul-n
     sub-wide
-    wide-requires
+    (λ c κs. search needs)
     add-n
-    add-i
-    loop-less
+    (λ c. search needs)
+    (λ c. search needs)
     loop-again
     returns-2)

@@ -9,18 +9,9 @@ use Rattle.netlist.proofs.net_at.Tie as tie
 returns : tie.Need-returns
 returns c = sym (List·getD-eq-default (c .before .args .nets .now) 0 (c .if1 .taken))
 
-mul-result : tie.Need-mul-result
-mul-result c = search needs
-
-shared-slice-read-result : tie.Need-shared-slice-read-result
-shared-slice-read-result c = search needs
-
 cast-result : tie.Need-cast-result
 cast-result c = omega (arith, c .shared-slice-known .given (c .before .before .args .k))
 
-returns-2 : tie.Need-returns-2
-returns-2 c = search needs
-
 pub net-at-spec : {M : Type 1} → statement M
 net-at-spec =
-    tie.close (tie.spec returns mul-result shared-slice-read-result cast-result returns-2)
+    tie.close (tie.spec returns (λ c. search needs) (λ c. search needs) cast-result (λ c. search needs))

@@ -3,11 +3,8 @@ use borrow.Author.Needs.{needs}
 use Rattle.order.proofs.fault_of.Statement.{statement}
 use Rattle.order.proofs.fault_of.Tie as tie
 
-levelize-requires : tie.Need-levelize-requires
-levelize-requires c κs = search needs
-
 returns : tie.Need-returns
 returns c = c .levelize .ensures .first
 
 pub fault-of-spec : {M : Type 1} → statement M
-fault-of-spec = tie.close (tie.spec levelize-requires returns)
+fault-of-spec = tie.close (tie.spec (λ c κs. search needs) returns)

@@ -16,12 +16,6 @@ use Rattle.order.proofs.levelize.Statement.{statement}
 use Rattle.order.proofs.levelize.Tie as tie
 use Rattle.netlist.specs.Meaning.Faults.{DesignFault}
 
-over-limit-requires : tie.Need-over-limit-requires
-over-limit-requires c κs = search needs
-
-no-plan-requires : tie.Need-no-plan-requires
-no-plan-requires c κs = search needs
-
 -- a number that is refused, with a list of zeros
 refusal : {d : Design} {number : ℕ} {l : List ℕ} (n : ℕ) → (n ≡ 0 → ⊥) → (number ≡ n) × Zero l → FirstOrNone (DesignFault d) n → Plans d number l
 refusal {d} {number} {l} n z w f =
@@ -34,9 +28,6 @@ returns c = refusal 3 (λ e. omega arith) (c .no-plan .ensures) (lowest-3 (rw (c
 net-over-requires : tie.Need-net-over-requires
 net-over-requires c κs = within (rw (c .if1 .left) at (c .before .over-limit .ensures))
 
-no-plan-requires-2 : tie.Need-no-plan-requires-2
-no-plan-requires-2 c κs = search needs
-
 returns-2 : tie.Need-returns-2
 returns-2 c =
     refusal 5 (λ e. omega arith) (c .no-plan2 .ensures)
@@ -45,12 +36,6 @@ returns-2 c =
 place-requires : tie.Need-place-requires
 place-requires c κs =
     sound (within (rw (c .before .before .if1 .left) at (c .before .before .before .over-limit .ensures))) (rw (c .if2 .left) at (c .before .net-over .ensures))
-
-cast-if3 : tie.Need-cast-if3
-cast-if3 c = search needs
-
-no-plan-requires-3 : tie.Need-no-plan-requires-3
-no-plan-requires-3 c κs = search needs
 
 returns-3 : tie.Need-returns-3
 returns-3 c =
@@ -72,14 +57,14 @@ pub levelize-spec : {M : Type 1} → statement M
 levelize-spec =
     tie.close
     (tie.spec
-    over-limit-requires
-    no-plan-requires
+    (λ c κs. search needs)
+    (λ c κs. search needs)
     returns
     net-over-requires
-    no-plan-requires-2
+    (λ c κs. search needs)
     returns-2
     place-requires
-    cast-if3
-    no-plan-requires-3
+    (λ c. search needs)
+    (λ c κs. search needs)
     returns-3
     returns-4)

@@ -19,32 +19,8 @@ Inv-loop d marks base count i₀ i = (i ≤ count) × ((j : ℕ) → j < i → g
 abbrev μ-loop : tie.MeasureT-loop
 μ-loop d marks base count i₀ i = count - i
 
-cast-base : tie.Need-cast-base Inv-loop μ-loop
-cast-base c = search needs
-
-add-base : tie.Need-add-base Inv-loop μ-loop
-add-base c = search needs
-
-cast-base-2 : tie.Need-cast-base-2 Inv-loop μ-loop
-cast-base-2 c = search needs
-
-add-base-2 : tie.Need-add-base-2 Inv-loop μ-loop
-add-base-2 c = search needs
-
-cast-count : tie.Need-cast-count Inv-loop μ-loop
-cast-count c = search needs
-
 loop-holds : tie.Need-loop-holds Inv-loop μ-loop
 loop-holds c = (search needs, below-none _)
-
-mul-c : tie.Need-mul-c Inv-loop μ-loop
-mul-c c = search needs
-
-element-copy-out-c : tie.Need-element-copy-out-c Inv-loop μ-loop
-element-copy-out-c c = search needs
-
-array-read-if1 : tie.Need-array-read-if1 Inv-loop μ-loop
-array-read-if1 c = search needs
 
 ready-gate-requires : tie.Need-ready-gate-requires Inv-loop μ-loop
 ready-gate-requires c κs =
@@ -58,12 +34,6 @@ returns c =
       ready = λ h. sym (c .before .ready-gate .ensures) ∙ c .if2 .taken;
       none = λ e. absurd (omega arith);
     }
-
-add-i : tie.Need-add-i Inv-loop μ-loop
-add-i c = search needs
-
-loop-less : tie.Need-loop-less Inv-loop μ-loop
-loop-less c = search needs
 
 loop-again : tie.Need-loop-again Inv-loop μ-loop
 loop-again c = (
@@ -87,18 +57,18 @@ next-ready-spec =
     (tie.spec
     Inv-loop
     μ-loop
-    cast-base
-    add-base
-    cast-base-2
-    add-base-2
-    cast-count
+    (λ c. search needs)
+    (λ c. search needs)
+    (λ c. search needs)
+    (λ c. search needs)
+    (λ c. search needs)
     loop-holds
-    mul-c
-    element-copy-out-c
-    array-read-if1
+    (λ c. search needs)
+    (λ c. search needs)
+    (λ c. search needs)
     ready-gate-requires
     returns
-    add-i
-    loop-less
+    (λ c. search needs)
+    (λ c. search needs)
     loop-again
     returns-2)

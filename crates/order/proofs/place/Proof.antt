@@ -15,9 +15,6 @@ Inv-loop d count cells₀ marks₀ k₀ cells marks k = (k ≤ count) × Marking
 abbrev μ-loop : tie.MeasureT-loop
 μ-loop d count cells₀ marks₀ k₀ cells marks k = count - k
 
-cast-count : tie.Need-cast-count Inv-loop μ-loop
-cast-count c = search needs
-
 loop-holds : tie.Need-loop-holds Inv-loop μ-loop
 loop-holds c = (search needs, marking-none (c .before .args .d))
 
@@ -38,20 +35,8 @@ returns c =
 cast-cells : tie.Need-cast-cells Inv-loop μ-loop
 cast-cells c = omega (arith, c .before .next-ready .ensures .within)
 
-mul-cells : tie.Need-mul-cells Inv-loop μ-loop
-mul-cells c = search needs
-
-array-write-cells : tie.Need-array-write-cells Inv-loop μ-loop
-array-write-cells c = search needs
-
 array-write-marks : tie.Need-array-write-marks Inv-loop μ-loop
 array-write-marks c = omega (arith, c .before .next-ready .ensures .within)
-
-add-k : tie.Need-add-k Inv-loop μ-loop
-add-k c = search needs
-
-loop-less : tie.Need-loop-less Inv-loop μ-loop
-loop-less c = search needs
 
 loop-again : tie.Need-loop-again Inv-loop μ-loop
 loop-again c =
@@ -75,15 +60,15 @@ place-spec =
     (tie.spec
     Inv-loop
     μ-loop
-    cast-count
+    (λ c. search needs)
     loop-holds
     next-ready-requires
     returns
     cast-cells
-    mul-cells
-    array-write-cells
+    (λ c. search needs)
+    (λ c. search needs)
     array-write-marks
-    add-k
-    loop-less
+    (λ c. search needs)
+    (λ c. search needs)
     loop-again
     returns-2)

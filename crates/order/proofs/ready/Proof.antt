@@ -6,11 +6,8 @@ use Rattle.order.proofs.ready.Tie as tie
 returns : tie.Need-returns
 returns c = simp (lt-ltb _ _ (c .if1 .taken))
 
-element-copy-out-result : tie.Need-element-copy-out-result
-element-copy-out-result c = search needs
-
 returns-2 : tie.Need-returns-2
 returns-2 c = simp (le-ltb _ _ (c .before .if1 .left))
 
 pub ready-spec : {M : Type 1} → statement M
-ready-spec = tie.close (tie.spec returns element-copy-out-result returns-2)
+ready-spec = tie.close (tie.spec returns (λ c. search needs) returns-2)

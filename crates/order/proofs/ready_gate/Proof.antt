@@ -5,18 +5,6 @@ use Rattle.netlist.proofs.Loops.{and-law}
 use Rattle.order.proofs.ready_gate.Statement.{statement}
 use Rattle.order.proofs.ready_gate.Tie as tie
 
-first-of-requires : tie.Need-first-of-requires
-first-of-requires c κs = search needs
-
-ready-requires : tie.Need-ready-requires
-ready-requires c κs = search needs
-
-second-of-requires : tie.Need-second-of-requires
-second-of-requires c κs = search needs
-
-ready-requires-2 : tie.Need-ready-requires-2
-ready-requires-2 c κs = search needs
-
 returns : tie.Need-returns
 returns c =
     and-law (rw (c .before .before .before .before .first-of .ensures) at (c .before .before .before .ready .ensures)) (rw (c .before .before .second-of .ensures) at (c .before .ready2 .ensures)) (inl (c .if1 .taken, refl))
@@ -29,9 +17,9 @@ pub ready-gate-spec : {M : Type 1} → statement M
 ready-gate-spec =
     tie.close
     (tie.spec
-    first-of-requires
-    ready-requires
-    second-of-requires
-    ready-requires-2
+    (λ c κs. search needs)
+    (λ c κs. search needs)
+    (λ c κs. search needs)
+    (λ c κs. search needs)
     returns
     returns-2)

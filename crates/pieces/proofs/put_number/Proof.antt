@@ -8,22 +8,10 @@ use Rattle.pieces.proofs.Putting.{put-as}
 use Rattle.pieces.proofs.put_number.Statement.{statement}
 use Rattle.pieces.proofs.put_number.Tie as tie
 
-decimal-requires : tie.Need-decimal-requires
-decimal-requires c κs = search needs
-
-array-share-prefix-digits : tie.Need-array-share-prefix-digits
-array-share-prefix-digits c = search needs
-
-slice-aggregate-put-word : tie.Need-slice-aggregate-put-word
-slice-aggregate-put-word c = search needs
-
 put-word-requires : tie.Need-put-word-requires
 put-word-requires c κs =
     let e = c .before .before .decimal .ensures .1 .1 ∙ spelled-fewest _ _ (c .before .before .decimal .ensures .1 .0) in
     omega (arith, ap length e, spelled-short 20 (c .before .before .before .before .before .args .n) (omega arith) (omega arith))
-
-same-length : tie.Need-same-length
-same-length c = search needs
 
 returns : tie.Need-returns
 returns c =
@@ -34,9 +22,9 @@ pub put-number-spec : {M : Type 1} → statement M
 put-number-spec =
     tie.close
     (tie.spec
-    decimal-requires
-    array-share-prefix-digits
-    slice-aggregate-put-word
+    (λ c κs. search needs)
+    (λ c. search needs)
+    (λ c. search needs)
     put-word-requires
-    same-length
+    (λ c. search needs)
     returns)

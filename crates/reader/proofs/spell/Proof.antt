@@ -25,22 +25,10 @@ mul-n c =
     let a = c .before .before .before .args in
     omega (arith, field-room (a .image .now) (a .at) (c .before .loop .k) (omega arith))
 
-add-bit : tie.Need-add-bit Inv-loop μ-loop
-add-bit c = search needs
-
-bit-requires : tie.Need-bit-requires Inv-loop μ-loop
-bit-requires c κs = search needs
-
 add-n : tie.Need-add-n Inv-loop μ-loop
 add-n c =
     let a = c .before .before .before .before .args in
     omega (arith, field-room (a .image .now) (a .at) (c .before .before .loop .k) (omega arith), bit-lt (a .image .now) (a .at + c .before .before .loop .k))
-
-add-k : tie.Need-add-k Inv-loop μ-loop
-add-k c = search needs
-
-loop-less : tie.Need-loop-less Inv-loop μ-loop
-loop-less c = search needs
 
 loop-again : tie.Need-loop-again Inv-loop μ-loop
 unfolding fieldAt horner
@@ -61,10 +49,10 @@ spell-spec =
     μ-loop
     loop-holds
     mul-n
-    add-bit
-    bit-requires
+    (λ c. search needs)
+    (λ c κs. search needs)
     add-n
-    add-k
-    loop-less
+    (λ c. search needs)
+    (λ c. search needs)
     loop-again
     returns)

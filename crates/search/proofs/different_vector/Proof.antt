@@ -24,12 +24,6 @@ returns : tie.Need-returns Inv-loop μ-loop
 returns c =
     scan-found (c .before .before .before .before .loop .inv) (c .before .before .if1 .taken) (rw (c .if2 .taken) at (c .before .shows .ensures))
 
-add-vector : tie.Need-add-vector Inv-loop μ-loop
-add-vector c = search needs
-
-loop-less : tie.Need-loop-less Inv-loop μ-loop
-loop-less c = search needs
-
 loop-again : tie.Need-loop-again Inv-loop μ-loop
 loop-again c =
     scan-more (c .before .before .before .before .loop .inv) (c .before .before .if1 .taken) (rw (c .if2 .left) at (c .before .shows .ensures))
@@ -47,7 +41,7 @@ different-vector-spec =
     loop-holds
     shows-requires
     returns
-    add-vector
-    loop-less
+    (λ c. search needs)
+    (λ c. search needs)
     loop-again
     returns-2)

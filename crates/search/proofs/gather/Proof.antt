@@ -15,9 +15,6 @@ Inv-loop sizes map k rows start end pairs₀ n₀ i₀ pairs n i = Gathering siz
 abbrev μ-loop : tie.MeasureT-loop
 μ-loop sizes map k rows start end pairs₀ n₀ i₀ pairs n i = end - i
 
-total-requires : tie.Need-total-requires Inv-loop μ-loop
-total-requires c κs = search needs
-
 loop-holds : tie.Need-loop-holds Inv-loop μ-loop
 loop-holds c = gathering-start (c .before .before .pre .1 .1 .0)
 
@@ -27,32 +24,8 @@ div-row c = omega (arith, second-pos _ _ _ (rw (c .before .before .before .befor
 element-copy-out-if2 : tie.Need-element-copy-out-if2 Inv-loop μ-loop
 element-copy-out-if2 c = omega (arith, pairAt-in (c .before .before .before .before .before .before .args .sizes) (c .before .before .before .loop .i) (rw (c .before .before .before .before .total .ensures .0) at (c .before .before .loop-test .taken)) .in-old, c .before .before .before .before .before .before .pre .0 .few-old)
 
-mul-if3 : tie.Need-mul-if3 Inv-loop μ-loop
-mul-if3 c = search needs
-
-shared-slice-read-if3 : tie.Need-shared-slice-read-if3 Inv-loop μ-loop
-shared-slice-read-if3 c = search needs
-
 cast-if3 : tie.Need-cast-if3 Inv-loop μ-loop
 cast-if3 c = omega (arith, c .shared-slice-known2 .given (c .before .before .before .before .before .before .loop .i))
-
-cast-pairs : tie.Need-cast-pairs Inv-loop μ-loop
-cast-pairs c = search needs
-
-mul-pairs : tie.Need-mul-pairs Inv-loop μ-loop
-mul-pairs c = search needs
-
-array-write-pairs : tie.Need-array-write-pairs Inv-loop μ-loop
-array-write-pairs c = search needs
-
-add-n : tie.Need-add-n Inv-loop μ-loop
-add-n c = search needs
-
-add-i : tie.Need-add-i Inv-loop μ-loop
-add-i c = search needs
-
-loop-less : tie.Need-loop-less Inv-loop μ-loop
-loop-less c = search needs
 
 loop-again : tie.Need-loop-again Inv-loop μ-loop
 loop-again c =
@@ -84,19 +57,19 @@ gather-spec =
     (tie.spec
     Inv-loop
     μ-loop
-    total-requires
+    (λ c κs. search needs)
     loop-holds
     div-row
     element-copy-out-if2
-    mul-if3
-    shared-slice-read-if3
+    (λ c. search needs)
+    (λ c. search needs)
     cast-if3
-    cast-pairs
-    mul-pairs
-    array-write-pairs
-    add-n
-    add-i
-    loop-less
+    (λ c. search needs)
+    (λ c. search needs)
+    (λ c. search needs)
+    (λ c. search needs)
+    (λ c. search needs)
+    (λ c. search needs)
     loop-again
     add-i-2
     mul-i

@@ -26,23 +26,8 @@ byte-at-requires c κs = omega (arith, c .place-of .ensures .under, c .before .b
 array-read-link : tie.Need-array-read-link Inv-loop μ-loop
 array-read-link c = omega (arith, c .byte-at .ensures, c .before .before .before .before .before .pre .0 .few, c .before .before .before .before .before .pre .0 .leads _ (c .before .place-of .ensures .under))
 
-array-write-link : tie.Need-array-write-link Inv-loop μ-loop
-array-write-link c = search needs
-
-add-first : tie.Need-add-first Inv-loop μ-loop
-add-first c = search needs
-
-cast-first : tie.Need-cast-first Inv-loop μ-loop
-cast-first c = search needs
-
 array-write-first : tie.Need-array-write-first Inv-loop μ-loop
 array-write-first c = omega (arith, c .byte-at .ensures, c .before .before .before .before .before .pre .0 .few, c .before .before .before .before .before .pre .0 .leads _ (c .before .place-of .ensures .under))
-
-add-s : tie.Need-add-s Inv-loop μ-loop
-add-s c = search needs
-
-loop-less : tie.Need-loop-less Inv-loop μ-loop
-loop-less c = search needs
 
 loop-again : tie.Need-loop-again Inv-loop μ-loop
 loop-again c = linked-more (c .before .before .before .before .before .pre .0 .few) (c .before .before .before .loop .inv) (c .before .before .loop-test .taken) (rw (c .byte-at .ensures) (c .before .before .before .before .before .pre .0 .leads _ (c .before .place-of .ensures .under))) (c .byte-at .ensures ∙ ap (λ (i : ℕ). getD (c .before .before .before .before .before .args .next .now) i 0) (c .before .place-of .ensures .is))
@@ -60,11 +45,11 @@ invert-spec =
     place-of-requires
     byte-at-requires
     array-read-link
-    array-write-link
-    add-first
-    cast-first
+    (λ c. search needs)
+    (λ c. search needs)
+    (λ c. search needs)
     array-write-first
-    add-s
-    loop-less
+    (λ c. search needs)
+    (λ c. search needs)
     loop-again
     returns)

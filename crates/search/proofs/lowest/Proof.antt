@@ -24,12 +24,6 @@ returns : tie.Need-returns Inv-loop μ-loop
 returns c =
     scan-found (c .before .before .before .before .loop .inv) (c .before .before .if1 .taken) (rw (c .if2 .taken) at (c .before .lands .ensures))
 
-add-v : tie.Need-add-v Inv-loop μ-loop
-add-v c = search needs
-
-loop-less : tie.Need-loop-less Inv-loop μ-loop
-loop-less c = search needs
-
 loop-again : tie.Need-loop-again Inv-loop μ-loop
 loop-again c =
     scan-more (c .before .before .before .before .loop .inv) (c .before .before .if1 .taken) (rw (c .if2 .left) at (c .before .lands .ensures))
@@ -47,7 +41,7 @@ lowest-spec =
     loop-holds
     lands-requires
     returns
-    add-v
-    loop-less
+    (λ c. search needs)
+    (λ c. search needs)
     loop-again
     returns-2)

@@ -6,15 +6,9 @@ use borrow.Author.Needs.{needs}
 use Rattle.search.proofs.map_at.Statement.{statement}
 use Rattle.search.proofs.map_at.Tie as tie
 
-place-of-requires : tie.Need-place-of-requires
-place-of-requires c κs = search needs
-
-number-at-requires : tie.Need-number-at-requires
-number-at-requires c κs = search needs
-
 returns : tie.Need-returns
 returns c =
     c .number-at .ensures ∙ ap (λ (i : ℕ). getD (c .before .before .before .args .map .now) i 0) (c .before .place-of .ensures .is)
 
 pub map-at-spec : {M : Type 1} → statement M
-map-at-spec = tie.close (tie.spec place-of-requires number-at-requires returns)
+map-at-spec = tie.close (tie.spec (λ c κs. search needs) (λ c κs. search needs) returns)

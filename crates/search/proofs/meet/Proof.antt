@@ -18,17 +18,11 @@ abbrev μ-loop : tie.MeasureT-loop
 loop-holds : tie.Need-loop-holds Inv-loop μ-loop
 loop-holds c = passed-start (c .before .pre .1 .0) (λ p s. s .0)
 
-sub-old : tie.Need-sub-old Inv-loop μ-loop
-sub-old c = search needs
-
 meet-row-requires : tie.Need-meet-row-requires Inv-loop μ-loop
 meet-row-requires c κs = (met-writable (c .before .before .before .loop .inv .met) (c .before .before .before .before .before .pre .0), (along-inside (c .before .before .before .before .before .pre .1 .0) (c .before .before .before .loop .inv .along) (c .before .before .loop-test .taken), c .before .before .before .before .before .pre .1 .1))
 
 add-fresh : tie.Need-add-fresh Inv-loop μ-loop
 add-fresh c = omega (arith, met-few (c .before .before .before .before .before .before .loop .inv .met), met-few (c .before .before .meet-row .ensures), few-pairs (c .before .before .before .before .before .before .before .before .pre .0 .few))
-
-element-copy-out-x : tie.Need-element-copy-out-x Inv-loop μ-loop
-element-copy-out-x c = search needs
 
 cast-x : tie.Need-cast-x Inv-loop μ-loop
 cast-x c = omega (arith, along-less (c .before .before .before .before .before .before .before .before .before .pre .1 .0) (c .before .before .before .before .before .before .before .loop .inv .along) (c .before .before .before .before .before .before .loop-test .taken), c .before .before .before .before .before .before .before .loop .inv .along .most, c .before .before .before .before .before .before .before .before .before .pre .0 .few .few-old)
@@ -52,10 +46,10 @@ meet-spec =
     Inv-loop
     μ-loop
     loop-holds
-    sub-old
+    (λ c. search needs)
     meet-row-requires
     add-fresh
-    element-copy-out-x
+    (λ c. search needs)
     cast-x
     loop-less
     loop-again

@@ -21,38 +21,8 @@ abbrev μ-loop : tie.MeasureT-loop
 loop-holds : tie.Need-loop-holds Inv-loop μ-loop
 loop-holds c = passed-start (c .before .pre .1 .1) (λ p s. s .1)
 
-sub-new : tie.Need-sub-new Inv-loop μ-loop
-sub-new c = search needs
-
-place-of-requires : tie.Need-place-of-requires Inv-loop μ-loop
-place-of-requires c κs = search needs
-
-mul-if1 : tie.Need-mul-if1 Inv-loop μ-loop
-mul-if1 c = search needs
-
-slice-read-if1 : tie.Need-slice-read-if1 Inv-loop μ-loop
-slice-read-if1 c = search needs
-
-add-map : tie.Need-add-map Inv-loop μ-loop
-add-map c = search needs
-
-cast-map : tie.Need-cast-map Inv-loop μ-loop
-cast-map c = search needs
-
-mul-map : tie.Need-mul-map Inv-loop μ-loop
-mul-map c = search needs
-
-slice-write-map : tie.Need-slice-write-map Inv-loop μ-loop
-slice-write-map c = search needs
-
-element-write-rows : tie.Need-element-write-rows Inv-loop μ-loop
-element-write-rows c = search needs
-
 add-fresh : tie.Need-add-fresh Inv-loop μ-loop
 add-fresh c = omega (arith, met-few (c .before .before .before .before .loop .inv .met), few-pairs (c .before .before .before .before .before .before .pre .0 .few))
-
-element-copy-out-y : tie.Need-element-copy-out-y Inv-loop μ-loop
-element-copy-out-y c = search needs
 
 cast-y : tie.Need-cast-y Inv-loop μ-loop
 cast-y c = omega (arith, along-less (c .before .before .before .before .before .before .before .pre .1 .1) (c .before .before .before .before .before .loop .inv .along) (c .before .before .before .before .loop-test .taken), c .before .before .before .before .before .loop .inv .along .most, c .before .before .before .before .before .before .before .pre .0 .few .few-new)
@@ -66,9 +36,6 @@ loop-again c =
     (λ w. rw (w .1, w .2, w .3) (rw (add-zero (c .before .before .before .before .before .loop .fresh)) at (row-more (c .before .before .before .before .before .before .before .pre .1 .1) (c .before .before .before .before .before .loop .inv) (c .before .before .before .before .loop-test .taken) (met-kept _ _ (c .before .before .before .place-of .ensures .is) (w .0 .left)))))
     (c .before .if1 .came)
 
-same-length : tie.Need-same-length Inv-loop μ-loop
-same-length c = search needs
-
 returns : tie.Need-returns Inv-loop μ-loop
 returns c = passed-end (c .before .before .before .pre .1 .1) (λ p s. s .1) (c .before .loop .inv) (c .loop-test .left)
 
@@ -79,19 +46,19 @@ meet-row-spec =
     Inv-loop
     μ-loop
     loop-holds
-    sub-new
-    place-of-requires
-    mul-if1
-    slice-read-if1
-    add-map
-    cast-map
-    mul-map
-    slice-write-map
-    element-write-rows
+    (λ c. search needs)
+    (λ c κs. search needs)
+    (λ c. search needs)
+    (λ c. search needs)
+    (λ c. search needs)
+    (λ c. search needs)
+    (λ c. search needs)
+    (λ c. search needs)
+    (λ c. search needs)
     add-fresh
-    element-copy-out-y
+    (λ c. search needs)
     cast-y
     loop-less
     loop-again
-    same-length
+    (λ c. search needs)
     returns)

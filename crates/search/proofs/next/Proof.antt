@@ -8,18 +8,6 @@ use borrow.Author.Needs.{needs}
 use Rattle.search.proofs.next.Statement.{statement}
 use Rattle.search.proofs.next.Tie as tie
 
-place-of-requires : tie.Need-place-of-requires
-place-of-requires c κs = search needs
-
-place-of-requires-2 : tie.Need-place-of-requires-2
-place-of-requires-2 c κs = search needs
-
-byte-at-requires : tie.Need-byte-at-requires
-byte-at-requires c κs = search needs
-
-byte-at-requires-2 : tie.Need-byte-at-requires-2
-byte-at-requires-2 c κs = search needs
-
 returns : tie.Need-returns
 returns c =
     let p = c .before .before .before .before .before .before .pre in (
@@ -29,4 +17,4 @@ returns c =
 
 pub next-spec : {M : Type 1} → statement M
 next-spec =
-    tie.close (tie.spec place-of-requires place-of-requires-2 byte-at-requires byte-at-requires-2 returns)
+    tie.close (tie.spec (λ c κs. search needs) (λ c κs. search needs) (λ c κs. search needs) (λ c κs. search needs) returns)

@@ -7,22 +7,10 @@ use borrow.Author.Needs.{needs}
 use Rattle.search.proofs.shows.Statement.{statement}
 use Rattle.search.proofs.shows.Tie as tie
 
-place-of-requires : tie.Need-place-of-requires
-place-of-requires c κs = search needs
-
-place-of-requires-2 : tie.Need-place-of-requires-2
-place-of-requires-2 c κs = search needs
-
-byte-at-requires : tie.Need-byte-at-requires
-byte-at-requires c κs = search needs
-
-byte-at-requires-2 : tie.Need-byte-at-requires-2
-byte-at-requires-2 c κs = search needs
-
 returns : tie.Need-returns
 returns c =
     tells-different _ _ _ _ _ (c .before .byte-at .result) (c .byte-at2 .result) (c .before .byte-at .ensures ∙ ap (λ (i : ℕ). getD (c .before .before .before .before .before .before .args .old-out .now) i 0) (c .before .before .before .place-of .ensures .is)) (c .byte-at2 .ensures ∙ ap (λ (i : ℕ). getD (c .before .before .before .before .before .before .args .new-out .now) i 0) (c .before .before .place-of2 .ensures .is))
 
 pub shows-spec : {M : Type 1} → statement M
 shows-spec =
-    tie.close (tie.spec place-of-requires place-of-requires-2 byte-at-requires byte-at-requires-2 returns)
+    tie.close (tie.spec (λ c κs. search needs) (λ c κs. search needs) (λ c κs. search needs) (λ c κs. search needs) returns)

@@ -5,24 +5,9 @@ use borrow.Author.Needs.{needs}
 use Rattle.seek.proofs.map_both.Statement.{statement}
 use Rattle.seek.proofs.map_both.Tie as tie
 
-map-traces-requires : tie.Need-map-traces-requires
-map-traces-requires c κs = search needs
-
-total-requires : tie.Need-total-requires
-total-requires c κs = search needs
-
-aligned-start-requires : tie.Need-aligned-start-requires
-aligned-start-requires c κs = search needs
-
 search-requires : tie.Need-search-requires
 search-requires c κs =
     (record { nexts = c .before .before .before .before .before .before .before .before .before .before .before .before .before .before .before .before .before .pre .0 .nexts; room = omega (arith, c .before .before .before .before .before .before .before .before .before .before .before .before .before .before .before .before .before .pre .1 .1, c .before .before .before .aligned-start .ensures .long) }, λ q h. flag-one (c .before .before .before .aligned-start .ensures .each q (omega (arith, c .before .before .before .before .before .before .total .ensures .0))))
-
-same-length : tie.Need-same-length
-same-length c = search needs
-
-same-length-2 : tie.Need-same-length-2
-same-length-2 c = search needs
 
 returns : tie.Need-returns
 returns c =
@@ -32,10 +17,10 @@ pub map-both-spec : {M : Type 1} → statement M
 map-both-spec =
     tie.close
     (tie.spec
-    map-traces-requires
-    total-requires
-    aligned-start-requires
+    (λ c κs. search needs)
+    (λ c κs. search needs)
+    (λ c κs. search needs)
     search-requires
-    same-length
-    same-length-2
+    (λ c. search needs)
+    (λ c. search needs)
     returns)

@@ -5,19 +5,13 @@ use borrow.Author.Needs.{needs}
 use Rattle.seek.proofs.map_traces.Statement.{statement}
 use Rattle.seek.proofs.map_traces.Tie as tie
 
-differ-requires : tie.Need-differ-requires
-differ-requires c κs = search needs
-
 search-requires : tie.Need-search-requires
 search-requires c κs =
     (record { nexts = c .before .before .before .before .before .before .before .before .before .before .pre .0 .nexts; room = omega (arith, c .before .before .before .before .before .before .before .before .before .before .pre .1, c .before .before .before .differ .ensures .long) }, λ q h. flag-one (c .before .before .before .differ .ensures .each q h))
-
-same-length : tie.Need-same-length
-same-length c = search needs
 
 returns : tie.Need-returns
 returns c =
     map-traces _ (c .before .before .before .before .before .before .before .before .before .before .before .before .before .pre .0) (c .before .before .before .before .before .before .differ .ensures) (c .before .before .search .ensures .0)
 
 pub map-traces-spec : {M : Type 1} → statement M
-map-traces-spec = tie.close (tie.spec differ-requires search-requires same-length returns)
+map-traces-spec = tie.close (tie.spec (λ c κs. search needs) search-requires (λ c. search needs) returns)

@@ -7,9 +7,6 @@ use borrow.Author.Needs.{needs}
 use Rattle.simulator.proofs.clock.Statement.{statement}
 use Rattle.simulator.proofs.clock.Tie as tie
 
-levelize-requires : tie.Need-levelize-requires
-levelize-requires c κs = search needs
-
 returns : tie.Need-returns
 returns c = record { keeps = (clock-design _ _ _ (c .before .before .levelize .ensures .first .some (c .if1 .taken)), tt) }
 
@@ -39,7 +36,7 @@ pub clock-spec : {M : Type 1} → statement M
 clock-spec =
     tie.close
     (tie.spec
-    levelize-requires
+    (λ c κs. search needs)
     returns
     power-requires
     returns-2

@@ -7,24 +7,6 @@ use borrow.Author.Needs.{needs}
 use Rattle.simulator.proofs.tabulate.Statement.{statement}
 use Rattle.simulator.proofs.tabulate.Tie as tie
 
-levelize-requires : tie.Need-levelize-requires
-levelize-requires c κs = search needs
-
-table-number-requires : tie.Need-table-number-requires
-table-number-requires c κs = search needs
-
-clear-bytes-requires : tie.Need-clear-bytes-requires
-clear-bytes-requires c κs = search needs
-
-clear-bytes-requires-2 : tie.Need-clear-bytes-requires-2
-clear-bytes-requires-2 c κs = search needs
-
-same-length : tie.Need-same-length
-same-length c = search needs
-
-same-length-2 : tie.Need-same-length-2
-same-length-2 c = search needs
-
 returns : tie.Need-returns
 returns c =
     record {
@@ -42,12 +24,6 @@ power-requires c κs = omega (arith, sound-table _ _ _ (c .before .before .befor
 power-requires-2 : tie.Need-power-requires-2
 power-requires-2 c κs = omega (arith, sound-table _ _ _ (c .before .before .before .before .before .before .before .before .before .before .before .before .before .before .before .before .before .before .table-number .ensures .none (c .before .before .before .before .before .before .before .before .before .if1 .left)) .few-inputs)
 
-same-length-3 : tie.Need-same-length-3
-same-length-3 c = search needs
-
-same-length-4 : tie.Need-same-length-4
-same-length-4 c = search needs
-
 returns-2 : tie.Need-returns-2
 returns-2 c =
     record {
@@ -60,16 +36,16 @@ pub tabulate-spec : {M : Type 1} → statement M
 tabulate-spec =
     tie.close
     (tie.spec
-    levelize-requires
-    table-number-requires
-    clear-bytes-requires
-    clear-bytes-requires-2
-    same-length
-    same-length-2
+    (λ c κs. search needs)
+    (λ c κs. search needs)
+    (λ c κs. search needs)
+    (λ c κs. search needs)
+    (λ c. search needs)
+    (λ c. search needs)
     returns
     fill-requires
     power-requires
     power-requires-2
-    same-length-3
-    same-length-4
+    (λ c. search needs)
+    (λ c. search needs)
     returns-2)

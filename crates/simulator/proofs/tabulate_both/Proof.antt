@@ -8,39 +8,6 @@ use borrow.Author.Needs.{needs}
 use Rattle.simulator.proofs.tabulate_both.Statement.{statement}
 use Rattle.simulator.proofs.tabulate_both.Tie as tie
 
-levelize-requires : tie.Need-levelize-requires
-levelize-requires c κs = search needs
-
-levelize-requires-2 : tie.Need-levelize-requires-2
-levelize-requires-2 c κs = search needs
-
-both-number-requires : tie.Need-both-number-requires
-both-number-requires c κs = search needs
-
-clear-bytes-requires : tie.Need-clear-bytes-requires
-clear-bytes-requires c κs = search needs
-
-clear-bytes-requires-2 : tie.Need-clear-bytes-requires-2
-clear-bytes-requires-2 c κs = search needs
-
-clear-bytes-requires-3 : tie.Need-clear-bytes-requires-3
-clear-bytes-requires-3 c κs = search needs
-
-clear-bytes-requires-4 : tie.Need-clear-bytes-requires-4
-clear-bytes-requires-4 c κs = search needs
-
-same-length : tie.Need-same-length
-same-length c = search needs
-
-same-length-2 : tie.Need-same-length-2
-same-length-2 c = search needs
-
-same-length-3 : tie.Need-same-length-3
-same-length-3 c = search needs
-
-same-length-4 : tie.Need-same-length-4
-same-length-4 c = search needs
-
 returns : tie.Need-returns
 returns c =
     record {
@@ -66,18 +33,6 @@ power-requires-2 c κs = omega (arith, sound-table _ _ _ (new-free _ _ _ _ _ _ (
 power-requires-3 : tie.Need-power-requires-3
 power-requires-3 c κs = omega (arith, sound-table _ _ _ (old-free _ _ _ _ _ _ (c .before .before .before .before .before .before .before .before .before .before .before .before .before .before .before .before .before .before .before .before .before .before .before .before .before .before .before .before .before .before .before .before .before .before .before .both-number .ensures .none (c .before .before .before .before .before .before .before .before .before .before .before .before .before .before .before .before .before .before .if1 .left))) .few-inputs)
 
-same-length-5 : tie.Need-same-length-5
-same-length-5 c = search needs
-
-same-length-6 : tie.Need-same-length-6
-same-length-6 c = search needs
-
-same-length-7 : tie.Need-same-length-7
-same-length-7 c = search needs
-
-same-length-8 : tie.Need-same-length-8
-same-length-8 c = search needs
-
 returns-2 : tie.Need-returns-2
 returns-2 c =
     record {
@@ -92,25 +47,25 @@ pub tabulate-both-spec : {M : Type 1} → statement M
 tabulate-both-spec =
     tie.close
     (tie.spec
-    levelize-requires
-    levelize-requires-2
-    both-number-requires
-    clear-bytes-requires
-    clear-bytes-requires-2
-    clear-bytes-requires-3
-    clear-bytes-requires-4
-    same-length
-    same-length-2
-    same-length-3
-    same-length-4
+    (λ c κs. search needs)
+    (λ c κs. search needs)
+    (λ c κs. search needs)
+    (λ c κs. search needs)
+    (λ c κs. search needs)
+    (λ c κs. search needs)
+    (λ c κs. search needs)
+    (λ c. search needs)
+    (λ c. search needs)
+    (λ c. search needs)
+    (λ c. search needs)
     returns
     fill-requires
     fill-requires-2
     power-requires
     power-requires-2
     power-requires-3
-    same-length-5
-    same-length-6
-    same-length-7
-    same-length-8
+    (λ c. search needs)
+    (λ c. search needs)
+    (λ c. search needs)
+    (λ c. search needs)
     returns-2)

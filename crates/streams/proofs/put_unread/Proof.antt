@@ -5,14 +5,8 @@ use borrow.Author.Needs.{needs}
 use Rattle.streams.proofs.put_unread.Statement.{statement}
 use Rattle.streams.proofs.put_unread.Tie as tie
 
-put-word-requires : tie.Need-put-word-requires
-put-word-requires c κs = search needs
-
-same-length : tie.Need-same-length
-same-length c = search needs
-
 returns : tie.Need-returns
 returns c = (refl, put-printed (c .before .before .put-word .ensures) (c .before .before .before .before .before .before .pre))
 
 pub put-unread-spec : {M : Type 1} → statement M
-put-unread-spec = tie.close (tie.spec put-word-requires same-length returns)
+put-unread-spec = tie.close (tie.spec (λ c κs. search needs) (λ c. search needs) returns)

@@ -5,9 +5,6 @@ use borrow.Author.Needs.{needs}
 use Rattle.table_faults.proofs.call_fault.Statement.{statement}
 use Rattle.table_faults.proofs.call_fault.Tie as tie
 
-out-of-range-requires : tie.Need-out-of-range-requires
-out-of-range-requires c κs = search needs
-
 returns : tie.Need-returns
 returns c = at-11 (rw (c .if1 .taken) at (c .before .out-of-range .ensures))
 
@@ -46,7 +43,7 @@ pub call-fault-spec : {M : Type 1} → statement M
 call-fault-spec =
     tie.close
     (tie.spec
-    out-of-range-requires
+    (λ c κs. search needs)
     returns
     too-short-requires
     returns-2

@@ -22,9 +22,6 @@ returns-5 c = OutOfRange.vectors-none (c .if5 .taken)
 returns-6 : tie.Need-returns-6
 returns-6 c = OutOfRange.vectors-many (c .if6 .taken)
 
-returns-7 : tie.Need-returns-7
-returns-7 c = search needs
-
 pub out-of-range-spec : {M : Type 1} → statement M
 out-of-range-spec =
-    tie.close (tie.spec returns returns-2 returns-3 returns-4 returns-5 returns-6 returns-7)
+    tie.close (tie.spec returns returns-2 returns-3 returns-4 returns-5 returns-6 (λ c. search needs))

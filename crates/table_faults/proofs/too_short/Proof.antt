@@ -33,10 +33,7 @@ mul-if5 c =
 returns-5 : tie.Need-returns-5
 returns-5 c = TooShort.lent (c .if5 .taken)
 
-returns-6 : tie.Need-returns-6
-returns-6 c = search needs
-
 pub too-short-spec : {M : Type 1} → statement M
 too-short-spec =
     tie.close
-    (tie.spec mul-old mul-new returns returns-2 returns-3 returns-4 mul-if5 returns-5 returns-6)
+    (tie.spec mul-old mul-new returns returns-2 returns-3 returns-4 mul-if5 returns-5 (λ c. search needs))

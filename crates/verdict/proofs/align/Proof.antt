@@ -36,18 +36,6 @@ append-requires c κs =
     let m = c .before .before .before .before .before .before .before .before .before .before .pre .0 .reached in
     (record { nexts = m .good .nexts; room = m .room }, (ready _ (m .good) (m .alike), (c .before .pair-at .ensures .1, (m .some _ (c .before .pair-at .ensures .1), c .before .before .before .before .loop .inv .1 _ _ m .under))))
 
-enum-known-found : tie.Need-enum-known-found Inv-loop μ-loop
-enum-known-found c = search needs
-
-enum-told : tie.Need-enum-told Inv-loop μ-loop
-enum-told c = search needs
-
-clear-bytes-requires : tie.Need-clear-bytes-requires Inv-loop μ-loop
-clear-bytes-requires c κs = search needs
-
-same-length : tie.Need-same-length Inv-loop μ-loop
-same-length c = search needs
-
 returns : tie.Need-returns Inv-loop μ-loop
 returns c = record { each = λ o0 o1 m. no-room _ m (c .before .before .before .before .before .before .before .before .before .before .before .before .before .loop .inv .1 o0 o1 m) (c .before .before .before .before .before .before .before .before .before .before .before .before .lowest-open .ensures) (c .before .before .before .before .before .before .before .before .before .before .before .if1 .left) (c .before .before .before .before .before .before .before .before .before .before .before .before .before .before .total .ensures .0) (c .before .before .before .before .before .before .before .before .before .before .pair-at .ensures .0) (c .before .before .before .before .before .before .before .before .before .before .before .before .before .before .before .before .before .before .before .pre .1) (rw (c .before .before .before .before .enum-told .given .1) at (c .before .before .before .before .before .before .before .before .append .ensures)) (c .before .before .before .before .before .before .before .before .append .kept .1 .1 .1 .1 .1 .0) (c .before .before .clear-bytes .ensures) }
 
@@ -76,9 +64,6 @@ loop-again c =
     let a = its-part (rw (c .before .before .before .before .before .found .given .1) at (c .before .before .before .before .before .before .before .before .before .append .ensures)) in
     (a .long ∙ c .before .before .before .before .before .before .before .before .before .before .before .before .before .before .loop .inv .0, λ o0 o1 m. aligning-more _ m (c .before .before .before .before .before .before .before .before .before .before .before .before .before .before .loop .inv .1 o0 o1 m) (c .before .before .before .before .before .before .before .before .before .before .before .before .before .lowest-open .ensures) (c .before .before .before .before .before .before .before .before .before .before .before .before .if1 .left) (c .before .before .before .before .before .before .before .before .before .before .before .before .before .before .before .total .ensures .0) (c .before .before .before .before .before .before .before .before .before .before .before .pair-at .ensures .0) a (c .before .before .spread .ensures) (c .spread2 .ensures))
 
-same-length-2 : tie.Need-same-length-2 Inv-loop μ-loop
-same-length-2 c = search needs
-
 returns-2 : tie.Need-returns-2 Inv-loop μ-loop
 returns-2 c = record { each = λ o0 o1 m. aligned _ m (c .before .before .loop .inv .1 o0 o1 m) (c .before .lowest-open .ensures) (c .if1 .taken ∙ c .before .before .before .total .ensures .0) }
 
@@ -93,15 +78,15 @@ align-spec =
     lowest-open-requires
     pair-at-requires
     append-requires
-    enum-known-found
-    enum-told
-    clear-bytes-requires
-    same-length
+    (λ c. search needs)
+    (λ c. search needs)
+    (λ c κs. search needs)
+    (λ c. search needs)
     returns
     add-to
     spread-requires
     spread-requires-2
     loop-less
     loop-again
-    same-length-2
+    (λ c. search needs)
     returns-2)

@@ -5,9 +5,6 @@ use borrow.Author.Needs.{needs}
 use Rattle.verdict.proofs.decide.Statement.{statement}
 use Rattle.verdict.proofs.decide.Tie as tie
 
-total-requires : tie.Need-total-requires
-total-requires c κs = search needs
-
 pair-at-requires : tie.Need-pair-at-requires
 pair-at-requires c κs = omega (arith, c .if1 .taken, c .before .total .ensures .0)
 
@@ -15,21 +12,9 @@ find-trace-requires : tie.Need-find-trace-requires
 find-trace-requires c κs =
     (c .before .before .before .before .before .before .before .before .before .before .before .pre .0 .good, (c .before .before .before .before .before .before .before .before .before .before .before .pre .0 .depth-room, (c .before .before .before .before .before .before .before .before .before .before .before .pre .0 .both .traces, (apart-of _ (c .before .before .before .before .before .before .before .before .before .before .before .pre .0) (c .before .before .before .before .before .before .before .before .before .before .before .pre .1 .0) (c .before .pair-at .ensures .0) (omega (arith, c .before .before .if1 .taken, c .before .before .before .total .ensures .0))) .inside)))
 
-enum-known-found : tie.Need-enum-known-found
-enum-known-found c = search needs
-
-enum-told : tie.Need-enum-told
-enum-told c = search needs
-
-same-length : tie.Need-same-length
-same-length c = search needs
-
 returns : tie.Need-returns
 returns c =
     settled-no-trace _ (c .before .before .before .before .before .before .before .before .before .before .before .before .before .before .before .before .pre .1 .1) (apart-of _ (c .before .before .before .before .before .before .before .before .before .before .before .before .before .before .before .before .pre .0) (c .before .before .before .before .before .before .before .before .before .before .before .before .before .before .before .before .pre .1 .0) (c .before .before .before .before .before .before .pair-at .ensures .0) (omega (arith, c .before .before .before .before .before .before .before .if1 .taken, c .before .before .before .before .before .before .before .before .total .ensures .0))) (rw (c .enum-told .given .1) at (c .before .before .before .before .find-trace .ensures))
-
-same-length-2 : tie.Need-same-length-2
-same-length-2 c = search needs
 
 returns-2 : tie.Need-returns-2
 returns-2 c =
@@ -39,21 +24,9 @@ align-requires : tie.Need-align-requires
 align-requires c κs =
     (record { out0 = _; out1 = _; reached = all-reached _ (c .before .before .before .before .before .before .before .before .before .before .pre .0) (c .before .before .before .before .before .before .before .before .before .before .pre .1 .0) (omega (arith, c .before .if1 .left, c .before .before .total .ensures .0)) }, c .before .before .before .before .before .before .before .before .before .before .pre .1 .1)
 
-enum-known-found-2 : tie.Need-enum-known-found-2
-enum-known-found-2 c = search needs
-
-enum-told-2 : tie.Need-enum-told-2
-enum-told-2 c = search needs
-
-same-length-3 : tie.Need-same-length-3
-same-length-3 c = search needs
-
 returns-3 : tie.Need-returns-3
 returns-3 c =
     settled-no-list _ (c .before .before .before .before .before .before .before .before .before .before .before .before .before .before .before .pre .1 .1) ((rw (c .enum-told2 .given .1) at (c .before .before .before .before .align .ensures)) .each _ _ (all-reached _ (c .before .before .before .before .before .before .before .before .before .before .before .before .before .before .before .pre .0) (c .before .before .before .before .before .before .before .before .before .before .before .before .before .before .before .pre .1 .0) (omega (arith, c .before .before .before .before .before .before .if1 .left, c .before .before .before .before .before .before .before .total .ensures .0))))
-
-same-length-4 : tie.Need-same-length-4
-same-length-4 c = search needs
 
 returns-4 : tie.Need-returns-4
 returns-4 c =
@@ -63,19 +36,19 @@ pub decide-spec : {M : Type 1} → statement M
 decide-spec =
     tie.close
     (tie.spec
-    total-requires
+    (λ c κs. search needs)
     pair-at-requires
     find-trace-requires
-    enum-known-found
-    enum-told
-    same-length
+    (λ c. search needs)
+    (λ c. search needs)
+    (λ c. search needs)
     returns
-    same-length-2
+    (λ c. search needs)
     returns-2
     align-requires
-    enum-known-found-2
-    enum-told-2
-    same-length-3
+    (λ c. search needs)
+    (λ c. search needs)
+    (λ c. search needs)
     returns-3
-    same-length-4
+    (λ c. search needs)
     returns-4)

@@ -7,15 +7,6 @@ use borrow.Author.Needs.{needs}
 use Rattle.writer.proofs.write.Statement.{statement}
 use Rattle.writer.proofs.write.Tie as tie
 
-clear-bytes-requires : tie.Need-clear-bytes-requires
-clear-bytes-requires c κs = search needs
-
-fault-of-requires : tie.Need-fault-of-requires
-fault-of-requires c κs = search needs
-
-same-length : tie.Need-same-length
-same-length c = search needs
-
 returns : tie.Need-returns
 returns c =
     let z = c .before .before .before .before .clear-bytes .ensures in
@@ -23,9 +14,6 @@ returns c =
 
 bytes-requires : tie.Need-bytes-requires
 bytes-requires c κs = sound-of (c .before .fault-of .ensures .none (c .if1 .left))
-
-same-length-2 : tie.Need-same-length-2
-same-length-2 c = search needs
 
 returns-2 : tie.Need-returns-2
 returns-2 c =
@@ -37,9 +25,6 @@ put-requires c κs =
     let z = c .before .before .before .before .before .before .before .clear-bytes .ensures in
     (sound-of (c .before .before .before .before .fault-of .ensures .none (c .before .before .before .if1 .left)), c .before .before .bytes .ensures, c .before .if2 .left, z .zero)
 
-same-length-3 : tie.Need-same-length-3
-same-length-3 c = search needs
-
 returns-3 : tie.Need-returns-3
 returns-3 c =
     let z = c .before .before .before .before .before .before .before .before .before .before .clear-bytes .ensures in
@@ -50,13 +35,13 @@ pub write-spec : {M : Type 1} → statement M
 write-spec =
     tie.close
     (tie.spec
-    clear-bytes-requires
-    fault-of-requires
-    same-length
+    (λ c κs. search needs)
+    (λ c κs. search needs)
+    (λ c. search needs)
     returns
     bytes-requires
-    same-length-2
+    (λ c. search needs)
     returns-2
     put-requires
-    same-length-3
+    (λ c. search needs)
     returns-3)

@@ -18,9 +18,6 @@ returns-2 c = Unfit.count (λ h. omega (arith, h .1))
 returns-3 : tie.Need-returns-3
 returns-3 c = Unfit.initial (λ h. ⊎-elim (λ l. omega arith) (c .if4 .taken) h)
 
-is-own-requires : tie.Need-is-own-requires
-is-own-requires c κs = search needs
-
 returns-4 : tie.Need-returns-4
 returns-4 c =
     let r = c .before .before .before .before .before .before .before .args .r in
@@ -28,4 +25,4 @@ returns-4 c =
     fits-own (c .is-own .result) Latch (r .count) (r .first) (r .third) (omega arith, omega arith) i (λ o. o) (λ o. o) (c .is-own .ensures)
 
 pub latch-fits-spec : {M : Type 1} → statement M
-latch-fits-spec = tie.close (tie.spec returns returns-2 returns-3 is-own-requires returns-4)
+latch-fits-spec = tie.close (tie.spec returns returns-2 returns-3 (λ c κs. search needs) returns-4)

@@ -4,14 +4,8 @@ use borrow.Author.Needs.{needs}
 use Rattle.brute_designs.proofs.draw.below.Statement.{statement}
 use Rattle.brute_designs.proofs.draw.below.Tie as tie
 
-returns : tie.Need-returns
-returns c = search needs
-
-rem-result : tie.Need-rem-result
-rem-result c = search needs
-
 returns-2 : tie.Need-returns-2
 returns-2 c = le-of-lt (mod-lt _ (search needs))
 
 pub below-spec : {M : Type 1} → statement M
-below-spec = tie.close (tie.spec returns rem-result returns-2)
+below-spec = tie.close (tie.spec (λ c. search needs) (λ c. search needs) returns-2)

@@ -21,24 +21,6 @@ abbrev μ-loop : tie.MeasureT-loop
 loop-holds : tie.Need-loop-holds Inv-loop μ-loop
 loop-holds c = (search needs, filled-none (cellOf (c .args .d)) blankCell mostCells)
 
-add-if1 : tie.Need-add-if1 Inv-loop μ-loop
-add-if1 c = search needs
-
-gate-at-requires : tie.Need-gate-at-requires Inv-loop μ-loop
-gate-at-requires c κs = search needs
-
-mul-cells : tie.Need-mul-cells Inv-loop μ-loop
-mul-cells c = search needs
-
-array-set-from-cells : tie.Need-array-set-from-cells Inv-loop μ-loop
-array-set-from-cells c = search needs
-
-add-i : tie.Need-add-i Inv-loop μ-loop
-add-i c = search needs
-
-loop-less : tie.Need-loop-less Inv-loop μ-loop
-loop-less c = search needs
-
 loop-again : tie.Need-loop-again Inv-loop μ-loop
 loop-again c = (search needs, filled-more (cellOf (c .before .before .before .before .before .args .d)) blankCell mostCells (c .before .before .before .before .loop .i) (c .before .before .before .before .loop .cells) (record { gate = c .gate-at .result }) (omega arith) (ap (λ (g : Gate). record { gate = g }) (c .gate-at .ensures)) (c .before .before .before .before .loop .inv .1))
 
@@ -54,11 +36,11 @@ cells-of-spec =
     Inv-loop
     μ-loop
     loop-holds
-    add-if1
-    gate-at-requires
-    mul-cells
-    array-set-from-cells
-    add-i
-    loop-less
+    (λ c. search needs)
+    (λ c κs. search needs)
+    (λ c. search needs)
+    (λ c. search needs)
+    (λ c. search needs)
+    (λ c. search needs)
     loop-again
     returns)

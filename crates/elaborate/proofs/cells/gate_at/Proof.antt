@@ -6,32 +6,8 @@ use borrow.Author.Needs.{needs}
 use Rattle.elaborate.proofs.cells.gate_at.Statement.{statement}
 use Rattle.elaborate.proofs.cells.gate_at.Tie as tie
 
-add-r : tie.Need-add-r
-add-r c = search needs
-
-add-r-2 : tie.Need-add-r-2
-add-r-2 c = search needs
-
-net-read-requires : tie.Need-net-read-requires
-net-read-requires c κs = search needs
-
-add-net-read : tie.Need-add-net-read
-add-net-read c = search needs
-
-net-read-requires-2 : tie.Need-net-read-requires-2
-net-read-requires-2 c κs = search needs
-
 returns : tie.Need-returns
 returns c = and-gate (c .before .before .before .before .before .before .args .d) (c .before .before .before .before .before .before .args .i) (c .before .before .net-read .result) (c .net-read2 .result) (c .before .before .before .before .if1 .taken) (c .before .before .net-read .ensures) (c .net-read2 .ensures)
-
-mul-v : tie.Need-mul-v
-mul-v c = search needs
-
-element-copy-out-v : tie.Need-element-copy-out-v
-element-copy-out-v c = search needs
-
-cast-v : tie.Need-cast-v
-cast-v c = search needs
 
 mul-t14 : tie.Need-mul-t14
 mul-t14 c = omega (arith, c .before .before .before .before .pre .0 .few-variables, c .before .before .before .before .pre .1 .low (c .before .before .before .before .args .i - c .before .before .before .before .args .d .ands) (omega arith))
@@ -49,15 +25,15 @@ pub gate-at-spec : {M : Type 1} → statement M
 gate-at-spec =
     tie.close
     (tie.spec
-    add-r
-    add-r-2
-    net-read-requires
-    add-net-read
-    net-read-requires-2
+    (λ c. search needs)
+    (λ c. search needs)
+    (λ c κs. search needs)
+    (λ c. search needs)
+    (λ c κs. search needs)
     returns
-    mul-v
-    element-copy-out-v
-    cast-v
+    (λ c. search needs)
+    (λ c. search needs)
+    (λ c. search needs)
     mul-t14
     mul-t18
     element-copy-out-t17

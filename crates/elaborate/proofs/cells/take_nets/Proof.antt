@@ -20,23 +20,8 @@ abbrev μ-loop : tie.MeasureT-loop
 loop-holds : tie.Need-loop-holds Inv-loop μ-loop
 loop-holds c = (search needs, filled-zero (λ j. netOf (c .before .args .d) (readAt (c .before .args .d) (c .before .args .r + j))) _ (c .before .pre .4))
 
-add-net-read : tie.Need-add-net-read Inv-loop μ-loop
-add-net-read c = search needs
-
-net-read-requires : tie.Need-net-read-requires Inv-loop μ-loop
-net-read-requires c κs = search needs
-
-mul-nets : tie.Need-mul-nets Inv-loop μ-loop
-mul-nets c = search needs
-
 slice-write-nets : tie.Need-slice-write-nets Inv-loop μ-loop
 slice-write-nets c = omega (arith, c .before .before .loop .inv .1 .size, c .before .before .before .before .pre .3)
-
-add-k : tie.Need-add-k Inv-loop μ-loop
-add-k c = search needs
-
-loop-less : tie.Need-loop-less Inv-loop μ-loop
-loop-less c = search needs
 
 loop-again : tie.Need-loop-again Inv-loop μ-loop
 loop-again c = (search needs, filled-more (λ j. netOf (c .before .before .before .before .args .d) (readAt (c .before .before .before .before .args .d) (c .before .before .before .before .args .r + j))) 0 _ (c .before .before .loop .k) (c .before .before .loop .nets) (c .net-read .result) (omega (arith, c .before .before .before .before .pre .3)) (c .net-read .ensures) (c .before .before .loop .inv .1))
@@ -56,12 +41,12 @@ take-nets-spec =
     Inv-loop
     μ-loop
     loop-holds
-    add-net-read
-    net-read-requires
-    mul-nets
+    (λ c. search needs)
+    (λ c κs. search needs)
+    (λ c. search needs)
     slice-write-nets
-    add-k
-    loop-less
+    (λ c. search needs)
+    (λ c. search needs)
     loop-again
     same-length
     returns)

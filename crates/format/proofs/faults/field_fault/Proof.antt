@@ -10,35 +10,11 @@ use Rattle.format.proofs.faults.field_fault.Tie as tie
 returns : tie.Need-returns
 returns c = five-read _ (c .before .before .pre .1 .0) _ (c .before .before .pre .1 .1) (c .if1 .taken)
 
-cast-count : tie.Need-cast-count
-cast-count c = search needs
-
-nets-requires : tie.Need-nets-requires
-nets-requires c κs = search needs
-
-sub-unread-above : tie.Need-sub-unread-above
-sub-unread-above c = search needs
-
-unread-above-requires : tie.Need-unread-above-requires
-unread-above-requires c κs = search needs
-
 returns-2 : tie.Need-returns-2
 returns-2 c = five-unread _ (c .before .before .before .before .before .before .pre .1 .0) _ (c .before .before .before .before .before .before .pre .1 .1) (rw (c .before .before .nets .ensures .0, nets-in (c .before .before .before .before .before .before .pre .0)) at (rw (c .if2 .taken) at (c .before .unread-above .ensures)))
 
-unread-above-requires-2 : tie.Need-unread-above-requires-2
-unread-above-requires-2 c κs = search needs
-
 returns-3 : tie.Need-returns-3
 returns-3 c = six _ (c .before .before .before .before .before .before .before .before .pre .1 .0) _ (c .before .before .before .before .before .before .before .before .pre .1 .1) (c .before .before .before .before .before .before .if1 .left) (rw (c .before .before .before .before .nets .ensures .0, nets-in (c .before .before .before .before .before .before .before .before .pre .0)) at (rw (c .before .before .if2 .left) at (c .before .before .before .unread-above .ensures))) (rw (c .if3 .taken) at (c .before .unread-above2 .ensures))
-
-bytes-requires : tie.Need-bytes-requires
-bytes-requires c κs = search needs
-
-bits-requires : tie.Need-bits-requires
-bits-requires c κs = search needs
-
-pad-requires : tie.Need-pad-requires
-pad-requires c κs = search needs
 
 returns-4 : tie.Need-returns-4
 returns-4 c =
@@ -60,16 +36,16 @@ field-fault-spec =
     tie.close
     (tie.spec
     returns
-    cast-count
-    nets-requires
-    sub-unread-above
-    unread-above-requires
+    (λ c. search needs)
+    (λ c κs. search needs)
+    (λ c. search needs)
+    (λ c κs. search needs)
     returns-2
-    unread-above-requires-2
+    (λ c κs. search needs)
     returns-3
-    bytes-requires
-    bits-requires
-    pad-requires
+    (λ c κs. search needs)
+    (λ c κs. search needs)
+    (λ c κs. search needs)
     returns-4
     returns-5
     returns-6)

@@ -15,14 +15,8 @@ returns c = λ b l w. head 1 (lit≤ tt) (ImageFault.short (rw l (c .if1 .taken)
 returns-2 : tie.Need-returns-2
 returns-2 c = λ b l w. head 2 (lit≤ tt) (ImageFault.version (λ e. c .if2 .taken (w .version ∙ e))) (clean-2 (rw l (c .before .before .if1 .left)))
 
-over-limit-requires : tie.Need-over-limit-requires
-over-limit-requires c κs = search needs
-
 returns-3 : tie.Need-returns-3
 returns-3 c = λ b l w. head 3 (lit≤ tt) (rw (c .if3 .taken) at (c .before .over-limit .ensures b w)) (clean-3 (rw l (c .before .before .before .before .if1 .left)) (sym (w .version) ∙ c .before .before .if2 .left))
-
-bytes-requires : tie.Need-bytes-requires
-bytes-requires c κs = search needs
 
 returns-4 : tie.Need-returns-4
 returns-4 c = λ b l w. head 4 (lit≤ tt) (ImageFault.ends (omega (arith, l, c .if4 .taken, c .before .bytes .ensures .0, bytes-in w))) (clean-4 (rw l (c .before .before .before .before .before .before .if1 .left)) (sym (w .version) ∙ c .before .before .before .before .if2 .left) (rw (c .before .before .if3 .left) at (c .before .before .before .over-limit .ensures b w)))
@@ -33,4 +27,4 @@ returns-5 c = λ b l w. no-head (clean-4 (rw l (c .before .before .before .befor
 pub header-fault-spec : {M : Type 1} → statement M
 header-fault-spec =
     tie.close
-    (tie.spec returns returns-2 over-limit-requires returns-3 bytes-requires returns-4 returns-5)
+    (tie.spec returns returns-2 (λ c κs. search needs) returns-3 (λ c κs. search needs) returns-4 returns-5)

@@ -5,17 +5,8 @@ use borrow.Author.Needs.{needs}
 use Rattle.format.proofs.faults.pad.Statement.{statement}
 use Rattle.format.proofs.faults.pad.Tie as tie
 
-mul-run : tie.Need-mul-run
-mul-run c = search needs
-
-sub-run : tie.Need-sub-run
-sub-run c = search needs
-
-run-requires : tie.Need-run-requires
-run-requires c κs = search needs
-
 returns : tie.Need-returns
 returns c = ap (λ (r : Numbers). r .first) (c .run .ensures)
 
 pub pad-spec : {M : Type 1} → statement M
-pad-spec = tie.close (tie.spec mul-run sub-run run-requires returns)
+pad-spec = tie.close (tie.spec (λ c. search needs) (λ c. search needs) (λ c κs. search needs) returns)

@@ -6,15 +6,6 @@ use borrow.Author.Needs.{needs}
 use Rattle.format.proofs.fields.cell.Statement.{statement}
 use Rattle.format.proofs.fields.cell.Tie as tie
 
-mul-at : tie.Need-mul-at
-mul-at c = search needs
-
-add-at : tie.Need-add-at
-add-at c = search needs
-
-run-requires : tie.Need-run-requires
-run-requires c κs = search needs
-
 returns : tie.Need-returns
 returns c =
     let e = c .run .ensures in
@@ -26,4 +17,4 @@ returns c =
     }
 
 pub cell-spec : {M : Type 1} → statement M
-cell-spec = tie.close (tie.spec mul-at add-at run-requires returns)
+cell-spec = tie.close (tie.spec (λ c. search needs) (λ c. search needs) (λ c κs. search needs) returns)

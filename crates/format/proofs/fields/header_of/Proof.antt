@@ -5,9 +5,6 @@ use borrow.Author.Needs.{needs}
 use Rattle.format.proofs.fields.header_of.Statement.{statement}
 use Rattle.format.proofs.fields.header_of.Tie as tie
 
-run-requires : tie.Need-run-requires
-run-requires c κs = search needs
-
 returns : tie.Need-returns
 returns c =
     let e = c .run .ensures in
@@ -27,4 +24,4 @@ returns c =
     }
 
 pub header-of-spec : {M : Type 1} → statement M
-header-of-spec = tie.close (tie.spec run-requires returns)
+header-of-spec = tie.close (tie.spec (λ c κs. search needs) returns)

@@ -5,14 +5,8 @@ use borrow.Author.Needs.{needs}
 use Rattle.format.proofs.fields.tail.Statement.{statement}
 use Rattle.format.proofs.fields.tail.Tie as tie
 
-tail-at-requires : tie.Need-tail-at-requires
-tail-at-requires c κs = search needs
-
-run-requires : tie.Need-run-requires
-run-requires c κs = search needs
-
 returns : tie.Need-returns
 returns c = rw (c .before .tail-at .ensures, c .before .before .before .pre .0) at (ap (λ (r : Numbers). r .first) (c .run .ensures))
 
 pub tail-spec : {M : Type 1} → statement M
-tail-spec = tie.close (tie.spec tail-at-requires run-requires returns)
+tail-spec = tie.close (tie.spec (λ c κs. search needs) (λ c κs. search needs) returns)

@@ -19,23 +19,8 @@ abbrev μ-loop : tie.MeasureT-loop
 loop-holds : tie.Need-loop-holds Inv-loop μ-loop
 loop-holds c = (search needs, filled-zero _ _ (c .before .before .pre .1 .1 .1))
 
-add-tail : tie.Need-add-tail Inv-loop μ-loop
-add-tail c = search needs
-
-tail-requires : tie.Need-tail-requires Inv-loop μ-loop
-tail-requires c κs = search needs
-
-mul-nets : tie.Need-mul-nets Inv-loop μ-loop
-mul-nets c = search needs
-
 slice-write-nets : tie.Need-slice-write-nets Inv-loop μ-loop
 slice-write-nets c = omega (arith, c .before .before .loop .inv .1 .size, c .before .before .before .before .before .pre .1 .1 .0)
-
-add-k : tie.Need-add-k Inv-loop μ-loop
-add-k c = search needs
-
-loop-less : tie.Need-loop-less Inv-loop μ-loop
-loop-less c = search needs
 
 loop-again : tie.Need-loop-again Inv-loop μ-loop
 loop-again c =
@@ -59,12 +44,12 @@ take-nets-spec =
     Inv-loop
     μ-loop
     loop-holds
-    add-tail
-    tail-requires
-    mul-nets
+    (λ c. search needs)
+    (λ c κs. search needs)
+    (λ c. search needs)
     slice-write-nets
-    add-k
-    loop-less
+    (λ c. search needs)
+    (λ c. search needs)
     loop-again
     same-length
     returns)

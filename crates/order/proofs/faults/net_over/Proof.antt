@@ -5,50 +5,11 @@ use borrow.Author.Needs.{needs}
 use Rattle.order.proofs.faults.net_over.Statement.{statement}
 use Rattle.order.proofs.faults.net_over.Tie as tie
 
-cast-nets : tie.Need-cast-nets
-cast-nets c = search needs
-
-add-nets : tie.Need-add-nets
-add-nets c = search needs
-
-cast-nets-2 : tie.Need-cast-nets-2
-cast-nets-2 c = search needs
-
-add-nets-2 : tie.Need-add-nets-2
-add-nets-2 c = search needs
-
-cast-nets-3 : tie.Need-cast-nets-3
-cast-nets-3 c = search needs
-
-add-nets-3 : tie.Need-add-nets-3
-add-nets-3 c = search needs
-
-cell-net-over-requires : tie.Need-cell-net-over-requires
-cell-net-over-requires c κs = search needs
-
 returns : tie.Need-returns
 returns c = let f = rw (c .if1 .taken) at (c .before .cell-net-over .ensures) in over-cell (f .0) (f .1) (f .2)
 
-slice-aggregate-listed-net-over : tie.Need-slice-aggregate-listed-net-over
-slice-aggregate-listed-net-over c = search needs
-
-cast-listed-net-over : tie.Need-cast-listed-net-over
-cast-listed-net-over c = search needs
-
-listed-net-over-requires : tie.Need-listed-net-over-requires
-listed-net-over-requires c κs = search needs
-
 returns-2 : tie.Need-returns-2
 returns-2 c = let f = rw (c .if2 .taken) at (c .before .listed-net-over .ensures) in DesignFault.read (f .0) (f .1) (f .2)
-
-slice-aggregate-listed-net-over-2 : tie.Need-slice-aggregate-listed-net-over-2
-slice-aggregate-listed-net-over-2 c = search needs
-
-cast-listed-net-over-2 : tie.Need-cast-listed-net-over-2
-cast-listed-net-over-2 c = search needs
-
-listed-net-over-requires-2 : tie.Need-listed-net-over-requires-2
-listed-net-over-requires-2 c κs = search needs
 
 returns-3 : tie.Need-returns-3
 returns-3 c =
@@ -58,19 +19,19 @@ pub net-over-spec : {M : Type 1} → statement M
 net-over-spec =
     tie.close
     (tie.spec
-    cast-nets
-    add-nets
-    cast-nets-2
-    add-nets-2
-    cast-nets-3
-    add-nets-3
-    cell-net-over-requires
+    (λ c. search needs)
+    (λ c. search needs)
+    (λ c. search needs)
+    (λ c. search needs)
+    (λ c. search needs)
+    (λ c. search needs)
+    (λ c κs. search needs)
     returns
-    slice-aggregate-listed-net-over
-    cast-listed-net-over
-    listed-net-over-requires
+    (λ c. search needs)
+    (λ c. search needs)
+    (λ c κs. search needs)
     returns-2
-    slice-aggregate-listed-net-over-2
-    cast-listed-net-over-2
-    listed-net-over-requires-2
+    (λ c. search needs)
+    (λ c. search needs)
+    (λ c κs. search needs)
     returns-3)

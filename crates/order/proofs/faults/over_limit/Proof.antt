@@ -6,26 +6,14 @@ use Rattle.order.proofs.faults.over_limit.Statement.{statement}
 use Rattle.order.proofs.faults.over_limit.Tie as tie
 use Rattle.netlist.specs.Meaning.Faults.{DesignFault}
 
-cast-if1 : tie.Need-cast-if1
-cast-if1 c = search needs
-
 returns : tie.Need-returns
 returns c = DesignFault.inputs (c .if1 .taken)
-
-cast-if2 : tie.Need-cast-if2
-cast-if2 c = search needs
 
 returns-2 : tie.Need-returns-2
 returns-2 c = DesignFault.latches (c .if2 .taken)
 
-cast-if3 : tie.Need-cast-if3
-cast-if3 c = search needs
-
 returns-3 : tie.Need-returns-3
 returns-3 c = DesignFault.outputs (c .if3 .taken)
-
-cast-if4 : tie.Need-cast-if4
-cast-if4 c = search needs
 
 returns-4 : tie.Need-returns-4
 returns-4 c = DesignFault.cells (c .if4 .taken)
@@ -37,4 +25,4 @@ returns-5 c =
 pub over-limit-spec : {M : Type 1} → statement M
 over-limit-spec =
     tie.close
-    (tie.spec cast-if1 returns cast-if2 returns-2 cast-if3 returns-3 cast-if4 returns-4 returns-5)
+    (tie.spec (λ c. search needs) returns (λ c. search needs) returns-2 (λ c. search needs) returns-3 (λ c. search needs) returns-4 returns-5)

@@ -6,22 +6,10 @@ use Rattle.pieces.proofs.Putting.{put-within, put-then}
 use Rattle.report.proofs.lines.put_vector.Statement.{statement}
 use Rattle.report.proofs.lines.put_vector.Tie as tie
 
-put-number-requires : tie.Need-put-number-requires
-put-number-requires c κs = search needs
-
-slice-aggregate-put-word : tie.Need-slice-aggregate-put-word
-slice-aggregate-put-word c = search needs
-
-put-word-requires : tie.Need-put-word-requires
-put-word-requires c κs = search needs
-
-same-length : tie.Need-same-length
-same-length c = search needs
-
 returns : tie.Need-returns
 returns c = put-within (vector-short (c .before .before .before .before .before .before .before .before .before .before .args .vector) (omega arith)) (put-then (c .before .before .before .before .before .before .before .put-number .ensures) (c .before .before .put-word .ensures))
 
 pub put-vector-spec : {M : Type 1} → statement M
 put-vector-spec =
     tie.close
-    (tie.spec put-number-requires slice-aggregate-put-word put-word-requires same-length returns)
+    (tie.spec (λ c κs. search needs) (λ c. search needs) (λ c κs. search needs) (λ c. search needs) returns)

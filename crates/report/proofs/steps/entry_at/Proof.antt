@@ -16,15 +16,9 @@ add-i c = omega (arith, mul-le-mul {n₁ = c .before .before .args .state} {n₂
 returns : tie.Need-returns
 returns c = (sym (List·getD-eq-default (c .before .before .before .args .table .now) 0 (c .if1 .taken)), omega arith)
 
-shared-slice-read-wide : tie.Need-shared-slice-read-wide
-shared-slice-read-wide c = search needs
-
-wide-requires : tie.Need-wide-requires
-wide-requires c κs = search needs
-
 returns-2 : tie.Need-returns-2
 returns-2 c = (c .wide .ensures .0, c .wide .ensures .1)
 
 pub entry-at-spec : {M : Type 1} → statement M
 entry-at-spec =
-    tie.close (tie.spec mul-i add-i returns shared-slice-read-wide wide-requires returns-2)
+    tie.close (tie.spec mul-i add-i returns (λ c. search needs) (λ c κs. search needs) returns-2)

@@ -4,12 +4,6 @@ use Rattle.machine.proofs.Numbers.{same-pair}
 use Rattle.report.proofs.steps.next_pair.Statement.{statement}
 use Rattle.report.proofs.steps.next_pair.Tie as tie
 
-entry-at-requires : tie.Need-entry-at-requires
-entry-at-requires c κs = search needs
-
-entry-at-requires-2 : tie.Need-entry-at-requires-2
-entry-at-requires-2 c κs = search needs
-
 returns : tie.Need-returns
 returns c =
     let old = c .before .entry-at .ensures in
@@ -17,4 +11,4 @@ returns c =
     (same-pair (old .0) (new .0), record { few-vectors = c .before .before .before .before .pre .0 .few-vectors; small-old = old .1; small-new = new .1 })
 
 pub next-pair-spec : {M : Type 1} → statement M
-next-pair-spec = tie.close (tie.spec entry-at-requires entry-at-requires-2 returns)
+next-pair-spec = tie.close (tie.spec (λ c κs. search needs) (λ c κs. search needs) returns)

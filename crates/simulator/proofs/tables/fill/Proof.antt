@@ -41,12 +41,6 @@ slice-write-next c = omega (arith, c .before .before .before .before .before .be
 slice-write-out : tie.Need-slice-write-out Inv-loop μ-loop
 slice-write-out c = omega (arith, c .before .before .before .before .before .before .before .pre .room-out, c .before .before .before .size .ensures .0, c .before .before .loop .inv .1 .outs .size)
 
-add-k : tie.Need-add-k Inv-loop μ-loop
-add-k c = search needs
-
-loop-less : tie.Need-loop-less Inv-loop μ-loop
-loop-less c = search needs
-
 loop-again : tie.Need-loop-again Inv-loop μ-loop
 loop-again c =
     let l = c .before .before .loop in
@@ -81,8 +75,8 @@ fill-spec =
     step-requires
     slice-write-next
     slice-write-out
-    add-k
-    loop-less
+    (λ c. search needs)
+    (λ c. search needs)
     loop-again
     same-length
     same-length-2

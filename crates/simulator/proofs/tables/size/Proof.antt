@@ -5,12 +5,6 @@ use borrow.Author.Needs.{needs}
 use Rattle.simulator.proofs.tables.size.Statement.{statement}
 use Rattle.simulator.proofs.tables.size.Tie as tie
 
-power-requires : tie.Need-power-requires
-power-requires c κs = search needs
-
-power-requires-2 : tie.Need-power-requires-2
-power-requires-2 c κs = search needs
-
 mul-result : tie.Need-mul-result
 mul-result c = omega (arith, mul-le-mul (c .before .power .ensures .1) (c .power2 .ensures .1))
 
@@ -18,4 +12,4 @@ returns : tie.Need-returns
 returns c = (rw (c .before .power .ensures .0, c .power2 .ensures .0), omega (arith, mul-le-mul (c .before .power .ensures .1) (c .power2 .ensures .1)))
 
 pub size-spec : {M : Type 1} → statement M
-size-spec = tie.close (tie.spec power-requires power-requires-2 mul-result returns)
+size-spec = tie.close (tie.spec (λ c κs. search needs) (λ c κs. search needs) mul-result returns)

@@ -26,12 +26,6 @@ mul-n c =
     let a = c .before .before .args in
     omega (arith, horner-room (bits (a .header) (a .cells .now) (a .tail .now) (a .count) (a .tails) (a .k)) (c .before .loop .j) (λ i. word-lt _ _ _ _ _ _) (omega arith), c .before .loop .inv .1)
 
-mul-bit-at : tie.Need-mul-bit-at Inv-loop μ-loop
-mul-bit-at c = search needs
-
-add-bit-at : tie.Need-add-bit-at Inv-loop μ-loop
-add-bit-at c = search needs
-
 bit-at-requires : tie.Need-bit-at-requires Inv-loop μ-loop
 bit-at-requires c κs = (c .before .before .pre .0, c .before .before .pre .1)
 
@@ -41,12 +35,6 @@ add-n c =
     let f = bits (a .header) (a .cells .now) (a .tail .now) (a .count) (a .tails) (a .k) in
     let j = c .before .before .loop .j in
     omega (arith, horner-room f j (λ i. word-lt _ _ _ _ _ _) (omega arith), c .before .before .loop .inv .1, word-lt (a .header) (λ i. getD (a .cells .now) i 0) (λ t. getD (a .tail .now) t 0) (a .count) (a .tails) (8 * a .k + j), c .bit-at .ensures)
-
-add-j : tie.Need-add-j Inv-loop μ-loop
-add-j c = search needs
-
-loop-less : tie.Need-loop-less Inv-loop μ-loop
-loop-less c = search needs
 
 loop-again : tie.Need-loop-again Inv-loop μ-loop
 unfolding horner
@@ -66,11 +54,11 @@ byte-at-spec =
     μ-loop
     loop-holds
     mul-n
-    mul-bit-at
-    add-bit-at
+    (λ c. search needs)
+    (λ c. search needs)
     bit-at-requires
     add-n
-    add-j
-    loop-less
+    (λ c. search needs)
+    (λ c. search needs)
     loop-again
     returns)

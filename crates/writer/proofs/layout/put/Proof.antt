@@ -21,18 +21,6 @@ abbrev μ-loop : tie.MeasureT-loop
 words-of-requires : tie.Need-words-of-requires Inv-loop μ-loop
 words-of-requires c κs = c .before .pre .0
 
-cast-count : tie.Need-cast-count Inv-loop μ-loop
-cast-count c = search needs
-
-cast-tails : tie.Need-cast-tails Inv-loop μ-loop
-cast-tails c = search needs
-
-cast-tails-2 : tie.Need-cast-tails-2 Inv-loop μ-loop
-cast-tails-2 c = search needs
-
-add-tails : tie.Need-add-tails Inv-loop μ-loop
-add-tails c = search needs
-
 loop-holds : tie.Need-loop-holds Inv-loop μ-loop
 loop-holds c = (search needs, filled-zero _ _ (c .before .before .before .before .before .before .before .pre .3))
 
@@ -43,12 +31,6 @@ byte-at-requires c κs =
 
 slice-write-image : tie.Need-slice-write-image Inv-loop μ-loop
 slice-write-image c = omega (arith, c .before .before .before .before .loop .inv .1 .size, c .before .before .before .before .before .before .before .before .before .before .before .before .pre .2)
-
-add-k : tie.Need-add-k Inv-loop μ-loop
-add-k c = search needs
-
-loop-less : tie.Need-loop-less Inv-loop μ-loop
-loop-less c = search needs
 
 loop-again : tie.Need-loop-again Inv-loop μ-loop
 loop-again c =
@@ -73,15 +55,15 @@ put-spec =
     Inv-loop
     μ-loop
     words-of-requires
-    cast-count
-    cast-tails
-    cast-tails-2
-    add-tails
+    (λ c. search needs)
+    (λ c. search needs)
+    (λ c. search needs)
+    (λ c. search needs)
     loop-holds
     byte-at-requires
     slice-write-image
-    add-k
-    loop-less
+    (λ c. search needs)
+    (λ c. search needs)
     loop-again
     same-length
     returns)

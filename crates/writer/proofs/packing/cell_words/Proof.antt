@@ -17,14 +17,8 @@ Inv-loop d count words₀ i₀ words i = (i ≤ count) × Filled (λ k. cellWord
 abbrev μ-loop : tie.MeasureT-loop
 μ-loop d count words₀ i₀ words i = count - i
 
-cast-count : tie.Need-cast-count Inv-loop μ-loop
-cast-count c = search needs
-
 loop-holds : tie.Need-loop-holds Inv-loop μ-loop
 loop-holds c = (search needs, filled-none (λ k. cellWord (gateAt (c .args .t1) k)) 0 mostCells)
-
-mul-cell : tie.Need-mul-cell Inv-loop μ-loop
-mul-cell c = search needs
 
 element-copy-out-cell : tie.Need-element-copy-out-cell Inv-loop μ-loop
 element-copy-out-cell c = omega (arith, c .before .before .pre .few-cells)
@@ -35,17 +29,8 @@ cell-word-requires c κs =
     let i = c .before .before .loop .i in
     (omega (arith, w .firsts i (omega arith), w .few-inputs, w .few-latches, w .few-cells), omega (arith, w .seconds i (omega arith), w .few-inputs, w .few-latches, w .few-cells))
 
-mul-words : tie.Need-mul-words Inv-loop μ-loop
-mul-words c = search needs
-
 array-write-words : tie.Need-array-write-words Inv-loop μ-loop
 array-write-words c = omega (arith, c .before .before .before .before .pre .few-cells)
-
-add-i : tie.Need-add-i Inv-loop μ-loop
-add-i c = search needs
-
-loop-less : tie.Need-loop-less Inv-loop μ-loop
-loop-less c = search needs
 
 loop-again : tie.Need-loop-again Inv-loop μ-loop
 loop-again c =
@@ -64,14 +49,14 @@ cell-words-spec =
     (tie.spec
     Inv-loop
     μ-loop
-    cast-count
+    (λ c. search needs)
     loop-holds
-    mul-cell
+    (λ c. search needs)
     element-copy-out-cell
     cell-word-requires
-    mul-words
+    (λ c. search needs)
     array-write-words
-    add-i
-    loop-less
+    (λ c. search needs)
+    (λ c. search needs)
     loop-again
     returns)

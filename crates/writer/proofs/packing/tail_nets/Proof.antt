@@ -18,41 +18,20 @@ Inv-loop d latches tails nets₀ t₀ nets t = (t ≤ tails) × Filled (tailNet 
 abbrev μ-loop : tie.MeasureT-loop
 μ-loop d latches tails nets₀ t₀ nets t = tails - t
 
-cast-latches : tie.Need-cast-latches Inv-loop μ-loop
-cast-latches c = search needs
-
-cast-tails : tie.Need-cast-tails Inv-loop μ-loop
-cast-tails c = search needs
-
 add-tails : tie.Need-add-tails Inv-loop μ-loop
 add-tails c = omega (arith, c .pre .few-latches, c .pre .few-outputs)
 
 loop-holds : tie.Need-loop-holds Inv-loop μ-loop
 loop-holds c = (search needs, filled-none (tailNet (c .args .t1)) 0 (mostLatches + mostOutputs))
 
-mul-net : tie.Need-mul-net Inv-loop μ-loop
-mul-net c = search needs
-
 element-copy-out-net : tie.Need-element-copy-out-net Inv-loop μ-loop
 element-copy-out-net c = omega (arith, c .before .before .before .pre .few-latches)
-
-mul-net-2 : tie.Need-mul-net-2 Inv-loop μ-loop
-mul-net-2 c = search needs
 
 element-copy-out-net-2 : tie.Need-element-copy-out-net-2 Inv-loop μ-loop
 element-copy-out-net-2 c = omega (arith, c .before .before .before .pre .few-outputs)
 
-mul-nets : tie.Need-mul-nets Inv-loop μ-loop
-mul-nets c = search needs
-
 array-write-nets : tie.Need-array-write-nets Inv-loop μ-loop
 array-write-nets c = omega (arith, c .before .before .before .pre .few-latches, c .before .before .before .pre .few-outputs)
-
-add-t : tie.Need-add-t Inv-loop μ-loop
-add-t c = search needs
-
-loop-less : tie.Need-loop-less Inv-loop μ-loop
-loop-less c = search needs
 
 loop-again : tie.Need-loop-again Inv-loop μ-loop
 loop-again c =
@@ -73,17 +52,17 @@ tail-nets-spec =
     (tie.spec
     Inv-loop
     μ-loop
-    cast-latches
-    cast-tails
+    (λ c. search needs)
+    (λ c. search needs)
     add-tails
     loop-holds
-    mul-net
+    (λ c. search needs)
     element-copy-out-net
-    mul-net-2
+    (λ c. search needs)
     element-copy-out-net-2
-    mul-nets
+    (λ c. search needs)
     array-write-nets
-    add-t
-    loop-less
+    (λ c. search needs)
+    (λ c. search needs)
     loop-again
     returns)
