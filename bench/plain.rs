@@ -8,7 +8,8 @@ struct Design {
     latches: usize,
     outputs: usize,
     cells: Vec<[usize; 3]>,
-    data: Vec<usize>,
+    // Data, enable and clear net of each flip-flop.
+    flip_flops: Vec<[usize; 3]>,
     shown: Vec<usize>,
 }
 
@@ -29,12 +30,16 @@ impl Bits<'_> {
 
 // The design at the front of the bytes, and how many bytes it takes.
 fn read(bytes: &[u8]) -> (Design, usize) {
-    let mut bits = Bits { bytes, at: 4 };
-    let (inputs, latches, outputs, count) = (bits.take(4), bits.take(4), bits.take(4), bits.take(9));
+    let mut bits = Bits { bytes, at: 0 };
+    let (version, inputs, latches, outputs, count) = (bits.take(4), bits.take(4), bits.take(4), bits.take(4), bits.take(9));
     let cells = (0..count).map(|_| [bits.take(3), bits.take(9), bits.take(9)]).collect();
-    let data = (0..latches).map(|_| bits.take(9)).collect();
+    let flip_flop = |_| match version {
+        1 => [bits.take(9), 1, 0],
+        _ => [bits.take(9), bits.take(9), bits.take(9)],
+    };
+    let flip_flops = (0..latches).map(flip_flop).collect();
     let shown = (0..outputs).map(|_| bits.take(9)).collect();
-    let design = Design { inputs, latches, outputs, cells, data, shown };
+    let design = Design { inputs, latches, outputs, cells, flip_flops, shown };
     (design, (bits.at + 7) / 8)
 }
 
@@ -85,7 +90,11 @@ fn tabulate(d: &Design) -> (Vec<u8>, Vec<u8>) {
                 let [kind, a, b] = d.cells[i];
                 nets[base + i] = gate(kind, nets[a], nets[b]);
             }
-            next.push(d.data.iter().fold(0, |n, &net| n * 2 + nets[net]));
+            next.push(d.flip_flops.iter().enumerate().fold(0, |n, (k, flip_flop)| {
+                let [data, enable, clear] = flip_flop.map(|net| nets[net]);
+                let held = nets[2 + d.inputs + k];
+                n * 2 + (1 - clear) * (if enable == 1 { data } else { held })
+            }));
             out.push(d.shown.iter().fold(0, |n, &net| n * 2 + nets[net]));
         }
     }

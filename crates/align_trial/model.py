@@ -52,9 +52,11 @@ class Design:
         bits = "".join(f"{byte:08b}" for byte in data)
         refuse(1, len(data) < 4)
         version, self.inputs, self.latches, self.outputs, cells = cut(bits, HEADER)
-        refuse(2, version != 1)
+        refuse(2, version not in (1, 2))
         refuse(3, self.inputs > 6 or self.latches > 7 or self.outputs > 8 or cells > 256)
-        widths = HEADER + (3, 9, 9) * cells + (9,) * (self.latches + self.outputs)
+        each = 3 if version == 2 else 1  # nets of a flip-flop: its data, and in version 2 its enable and clear
+        shown_at = each * self.latches
+        widths = HEADER + (3, 9, 9) * cells + (9,) * (shown_at + self.outputs)
         used = sum(widths)
         self.bytes = (used + 7) // 8
         refuse(4, len(data) < self.bytes)
@@ -67,8 +69,11 @@ class Design:
         refuse(7, "1" in bits[used:8 * self.bytes])
         refuse(8, whole and len(data) > self.bytes)
         columns = self.columns()
-        self.next = self.table([columns[net] for net in read[:self.latches]])
-        self.out = self.table([columns[net] for net in read[self.latches:]])
+        flip_flops = [(read[at:at + each] + [1, 0])[:3] for at in range(0, shown_at, each)]
+        refuse(19, version == 2 and all(nets[1:] == [1, 0] for nets in flip_flops))
+        own = columns[2 + self.inputs:2 + self.inputs + self.latches]
+        self.next = self.table([latched(held, *(columns[net] for net in nets)) for held, nets in zip(own, flip_flops)])
+        self.out = self.table([columns[net] for net in read[shown_at:]])
 
     def columns(self):
         """For each net its values in every state under every vector, as the bits of one number."""
@@ -99,6 +104,11 @@ class Design:
         digits = ["0" * places] + [f"{column:0{places}b}"[::-1] for column in columns]
         numbers = [int("".join(bits), 2) for bits in zip(*digits)]
         return [numbers[at:at + 2 ** self.inputs] for at in range(0, places, 2 ** self.inputs)]
+
+
+def latched(held, data, enable, clear):
+    """The column of a flip-flop after the clock: its bits change to the data where enabled, and none is left where cleared."""
+    return (held ^ ((held ^ data) & enable)) & ~clear
 
 
 def gate(kind, a, b):

@@ -4,14 +4,17 @@
   python3 crates/trial/model.py    writes what `trial` has to print (stdout) of what it is asked (stdin)
 
 It was written from the papers, not from the proved code, and goes another way where there is one: an image is a string of 0 and 1, the
-value of a net is found by recursion, a set of pairs is a set, and what refuses a call is a list of numbers of which the lowest counts.
+value of a net is found by recursion, a flip-flop that is held or cleared reads another net, an image that version 1 could have held is
+one that would be written otherwise, a set of pairs is a set, and what refuses a call is a list of numbers of which the lowest counts.
 """
 import re
 from pathlib import Path
 
 HERE = Path(__file__).resolve().parent
 CELLS = 256
-TOO_LONG = {"image": 692, "memory": 19 + 3 * CELLS, "numbers": 13, "bytes": 40000}
+CELLS_AT = 4 + 3 * 7 + 8
+NETS = {1: 1, 2: 3}  # of a flip-flop, in an image of each version
+TOO_LONG = {"image": 708, "memory": CELLS_AT + 3 * CELLS, "numbers": 13, "bytes": 40000}
 
 
 class NoQuestion(Exception):
@@ -59,24 +62,25 @@ def short(numbers, spell=str, before=""):
 # Designs and images.
 
 class Design:
-    """Sizes, cells as kind and two nets, the nets of the flip-flops and of the outputs."""
+    """Sizes, cells as kind and two nets, flip-flops as data, enable and clear net, the nets of the outputs."""
 
-    def __init__(self, sizes, cells, data, shown):
-        self.sizes, self.cells, self.data, self.shown = sizes, cells, data, shown
+    def __init__(self, sizes, cells, flip_flops, shown):
+        self.sizes, self.cells, self.shown = sizes, cells, shown
         self.inputs, self.latches, self.outputs, self.count = sizes
+        self.flip_flops = flip_flops[:self.latches]
 
     @staticmethod
     def in_memory(numbers):
         numbers = numbers + [0] * (TOO_LONG["memory"] - len(numbers))
         sizes = [min(number, 255) for number in numbers[:3]] + [numbers[3]]
-        cells = [tuple(numbers[k:k + 3]) for k in range(19, len(numbers), 3)]
+        cells = [tuple(numbers[k:k + 3]) for k in range(CELLS_AT, len(numbers), 3)]
         cells = [(min(kind, 7), first, second if kind > 1 else 0) for kind, first, second in cells]
-        return Design(sizes, cells, numbers[4:11], numbers[11:19])
+        return Design(sizes, cells, [tuple(numbers[k:25:7]) for k in range(4, 11)], numbers[25:CELLS_AT])
 
     def read(self):
         """The nets that are read: by the cells in use, the flip-flops and the outputs."""
         cells = [net for kind, first, second in self.cells[:self.count] for net in ([first, second] if kind > 1 else [first])]
-        return cells + self.data[:self.latches] + self.shown[:self.outputs]
+        return cells + [net for nets in self.flip_flops for net in nets] + self.shown[:self.outputs]
 
     def faults(self):
         if self.inputs > 6 or self.latches > 7 or self.outputs > 8 or self.count > CELLS:
@@ -110,17 +114,21 @@ class Design:
                 known[net] = [a, 1 - a, a & b, a | b, a ^ b, 1 - (a & b), 1 - (a | b), 1 - (a ^ b)][kind]
             return known[net]
 
-        return tuple(int("0" + "".join(str(value(net)) for net in nets), 2)
-                     for nets in (self.data[:self.latches], self.shown[:self.outputs]))
+        # A flip-flop reads net 0 where it is cleared, its data net where it is enabled, and its own net otherwise.
+        taken = [0 if value(clear) else data if value(enable) else 2 + self.inputs + k
+                 for k, (data, enable, clear) in enumerate(self.flip_flops)]
+        return tuple(int("0" + "".join(str(value(net)) for net in nets), 2) for nets in (taken, self.shown[:self.outputs]))
 
     def table(self):
         steps = [self.step(s, v) for s in range(2 ** self.latches) for v in range(2 ** self.inputs)]
         return [s for s, _ in steps], [out for _, out in steps]
 
     def image(self):
-        bits = "0001" + "".join(f"{size:04b}" for size in self.sizes[:3]) + f"{self.count:09b}"
+        version = 1 if all(nets[1:] == (1, 0) for nets in self.flip_flops) else 2
+        bits = "".join(f"{size:04b}" for size in [version] + self.sizes[:3]) + f"{self.count:09b}"
         bits += "".join(f"{kind:03b}{first:09b}{second:09b}" for kind, first, second in self.cells[:self.count])
-        bits += "".join(f"{net:09b}" for net in self.data[:self.latches] + self.shown[:self.outputs])
+        nets = [net for nets in self.flip_flops for net in nets[:NETS[version]]]
+        bits += "".join(f"{net:09b}" for net in nets + self.shown[:self.outputs])
         bits += "0" * (-len(bits) % 8)
         return [int(bits[k:k + 8], 2) for k in range(0, len(bits), 8)]
 
@@ -129,28 +137,29 @@ EMPTY = Design.in_memory([])
 
 
 def header(data):
-    """What refuses the header of an image, its sizes and how many bytes it takes."""
+    """What refuses the header of an image, the nets of a flip-flop, the sizes, and how many bytes the image takes."""
     if len(data) < 4:
-        return [1], None, 0
+        return [1], 0, None, 0
     bits = "".join(f"{byte:08b}" for byte in data[:4])
     version, *sizes = [int(bits[4 * k:4 * k + 4], 2) for k in range(4)] + [int(bits[16:25], 2)]
-    if version != 1:
-        return [2], None, 0
+    if version not in NETS:
+        return [2], 0, None, 0
     if sizes[0] > 6 or sizes[1] > 7 or sizes[2] > 8 or sizes[3] > CELLS:
-        return [3], None, 0
-    size = (25 + 21 * sizes[3] + 9 * (sizes[1] + sizes[2]) + 7) // 8
-    return ([4] if len(data) < size else []), sizes, size
+        return [3], 0, None, 0
+    size = (25 + 21 * sizes[3] + 9 * (NETS[version] * sizes[1] + sizes[2]) + 7) // 8
+    return ([4] if len(data) < size else []), NETS[version], sizes, size
 
 
 def reading(data):
     """What refuses an image, and the design that it spells."""
-    faults, sizes, size = header(data)
+    faults, each, sizes, size = header(data)
     if faults:
         return faults, EMPTY
     bits = "".join(f"{byte:08b}" for byte in data[:size])
     ends = [25 + 21 * k for k in range(sizes[3] + 1)]
     cells = [(int(bits[e:e + 3], 2), int(bits[e + 3:e + 12], 2), int(bits[e + 12:e + 21], 2)) for e in ends[:-1]]
-    tails = [int(bits[ends[-1] + 9 * k:ends[-1] + 9 * k + 9], 2) for k in range(sizes[1] + sizes[2])]
+    shown_at = each * sizes[1]
+    tails = [int(bits[ends[-1] + 9 * k:ends[-1] + 9 * k + 9], 2) for k in range(shown_at + sizes[2])]
     nets = 2 + sizes[0] + sizes[1] + sizes[3]
     if any(net >= nets for net in tails + [net for cell in cells for net in cell[1:]]):
         faults.append(5)
@@ -160,9 +169,12 @@ def reading(data):
         faults.append(7)
     if len(data) > size:
         faults.append(8)
-    design = Design(sizes, cells, tails[:sizes[1]], tails[sizes[1]:])
+    flip_flops = [tuple(tails[k:k + each] + [1, 0][:3 - each]) for k in range(0, shown_at, each)]
+    design = Design(sizes, cells, flip_flops, tails[shown_at:])
     if not faults:
         faults = design.faults()
+    if not faults and design.image() != data:
+        faults = [19]
     return (faults, EMPTY) if faults else ([], design)
 
 
@@ -330,7 +342,8 @@ def on_one(call, design, numbers):
 
 DESIGNS = {"compare": 2, "tabulate_both": 2, "tabulate": 1, "write": 1, "clock": 1, "fault_of": 1}
 TAKE_NO_NUMBERS = ["fault_of", "length_of", "read"]
-OTHERS = ["length_of", "read", "map_alike", "map_alignable", "trace_of", "list_of", "judge"]
+OTHERS = ["length_of", "read", "map_alike", "map_alignable", "trace_of", "list_of", "judge", "earlier_number"]
+ORDER = [*range(1, 10), 19, *range(10, 17)]
 
 
 def design_of(words):
@@ -354,16 +367,19 @@ def answer(line):
     given = len(numbers)
     numbers += [0] * (TOO_LONG["numbers"] - len(numbers))
     data = entries(words.pop(0), 255, "bytes") if words else []
-    if words or (call in TAKE_NO_NUMBERS and given) or (call in DESIGNS and data):
+    if words or (call in TAKE_NO_NUMBERS and given) or ((call in DESIGNS or call == "earlier_number") and data):
         raise NoQuestion(SPELLED_WRONG)
     if call not in DESIGNS and call not in OTHERS:
         raise NoQuestion("no such call")
     if call == "length_of":
-        faults, _, size = header(data)
+        faults, *_, size = header(data)
         return f"refused {faults[0]}" if faults else f"bytes {size}"
     if call == "read":
         faults, design = reading(data)
         return (f"refused {min(faults)}" if faults else "accepted") + ", sizes " + " ".join(map(str, design.sizes))
+    if call == "earlier_number":
+        some = [min(number, 255) for number in numbers[:2] if number]
+        return f"number {min(some, key=lambda n: (ORDER.index(n) if n in ORDER else len(ORDER), n), default=0)}"
     if call in ("write", "clock", "fault_of"):
         return on_one(call, designs[0], numbers)
     if call in DESIGNS:

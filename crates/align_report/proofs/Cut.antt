@@ -11,7 +11,7 @@ use Rattle.memory.specs.Meaning.Refusals.{Free, First}
 use Rattle.limits.specs.Meaning.Layout.{mostBytes}
 use Rattle.limits.proofs.Sizes.{bytes-le-most}
 use Rattle.reader.specs.Meaning.Fields.{bitAt}
-use Rattle.format.specs.Meaning.Format.{latchesIn, outputsIn, countIn, bytesIn}
+use Rattle.format.specs.Meaning.Format.{versionIn, latchesIn, outputsIn, countIn, bytesIn}
 use Rattle.format.specs.Meaning.Faults.{ImageFault, HeaderFault}
 use Rattle.format.proofs.Refusals.{within-limits}
 use Rattle.image.proofs.Long.{SameFront, same-bytes-in, header-there, free-there, never-free, lowest-there}
@@ -38,7 +38,7 @@ module _ (b : List ℕ) (long : mostRead ≤ length b) where
 
   module _ (free : Free (HeaderFault cut)) where
     few : bytesIn cut ≤ mostBytes
-    few = let w = within-limits free in bytes-le-most (countIn cut) (latchesIn cut) (outputsIn cut) (w .few-cells) (w .few-latches) (w .few-outputs)
+    few = let w = within-limits free in bytes-le-most (versionIn cut) (countIn cut) (latchesIn cut) (outputsIn cut) (w .few-cells) (w .few-latches) (w .few-outputs)
 
     same-old : oldBytes cut ≡ oldBytes b
     same-old = take-take (bytesIn cut) mostRead b (omega (arith, few)) ∙ ap (λ (k : ℕ). take k b) same-size

@@ -32,10 +32,11 @@ pub const FLIPPED: usize = 7;
 
 pub const CUT: usize = 8;
 
-// How often each number from 0 to 15 was expected for each of these, and then the disagreements.
-pub const DISAGREEMENTS: usize = 144;
+// How often each number from 0 to 19 was expected for each of these, and how often of a design or an image in version 2; then the
+// disagreements.
+pub const DISAGREEMENTS: usize = 360;
 
-pub const PLACES: usize = 145;
+pub const PLACES: usize = 361;
 
 pub type Tally = [usize; PLACES];
 
@@ -50,8 +51,11 @@ pub struct Answer(pub usize, pub usize, pub usize, pub usize, pub usize);
 
 // Counts a comparison. A difference is printed with its design, if it is one of the first few; then the result is true.
 fn judge(what: usize, list: &Plain, found: Answer, expected: Answer, tally: &mut Tally) -> bool {
-    let place = 16 * (what % 9) + expected.0 % 16;
+    let place = 40 * (what % 9) + 2 * (expected.0 % 20);
     tally[place] = std::num::wrapping_add_usize(tally[place], 1);
+    if list[plain::VERSION] == 2 {
+        tally[place + 1] = std::num::wrapping_add_usize(tally[place + 1], 1);
+    }
     if found.0 == expected.0
         && found.1 == expected.1
         && found.2 == expected.2
@@ -132,13 +136,18 @@ fn entries(list: &Plain, number: usize) -> usize {
     1 << (bits % 16)
 }
 
-// The next state and the output of an entry, and the entry.
+// The next state and the output of an entry, and the entry. The bits of all flip-flops are taken at once: those of the data where enabled,
+// those held elsewhere, and of these none that is cleared.
 fn stepped(list: &Plain, entry: usize) -> Answer {
     let latches = plain::at(list, plain::LATCHES);
     let outputs = plain::at(list, plain::OUTPUTS);
-    let next = recursion::word(list, entry, plain::DATA, latches);
-    let out = recursion::word(list, entry, plain::SHOWN, outputs);
-    Answer(0, next, out, entry, 0)
+    let data = recursion::word(list, entry, plain::DATA, 3, latches);
+    let enable = recursion::word(list, entry, plain::ENABLE, 3, latches);
+    let clear = recursion::word(list, entry, plain::CLEAR, 3, latches);
+    let held = entry >> (plain::at(list, plain::INPUTS) % 8);
+    let taken = (data & enable) | (held & !enable);
+    let out = recursion::word(list, entry, plain::SHOWN, 1, outputs);
+    Answer(0, taken & !clear, out, entry, 0)
 }
 
 // Compares every clock, and the refusal of a state and of a vector one too high; of a design with a number only these two.
@@ -246,7 +255,7 @@ pub fn writing(what: usize, list: &Plain, n: usize, tally: &mut Tally) {
     );
 }
 
-// Reads and measures the first n bytes both ways.
+// Reads and measures the first n bytes both ways. The design beside a refusal is empty.
 pub fn reading(what: usize, bits: &Bits, n: usize, tally: &mut Tally) {
     let taken = images::take(bits);
     let number = images::number(bits, n, &taken);
@@ -254,9 +263,10 @@ pub fn reading(what: usize, bits: &Bits, n: usize, tally: &mut Tally) {
     if number == 0 || 4 < number {
         length = (images::end(&taken) + 7) / 8;
     }
-    let mut list = [0u16; plain::NUMBERS];
-    if number == 0 {
-        list = taken;
+    let mut list = taken;
+    if number != 0 {
+        list = plain::empty();
+        list[plain::VERSION] = taken[plain::VERSION];
     }
     let expected = Answer(number, length, BYTES, 0, plain::NUMBERS);
     reads(what, bits, n, &list, expected, tally);

@@ -3,12 +3,13 @@ ghost use Prim.Native.Nat.{_≤_};
 use crate::plain;
 use crate::plain::Plain;
 use crate::recursion;
+use limits::Image;
 use std::num::wrapping_add_usize;
 
 // Room for the longest image and some bytes more.
-pub const BYTES: usize = 720;
+pub const BYTES: usize = Image::MOST_BYTES + 12;
 
-pub const BITS: usize = 5760;
+pub const BITS: usize = 8 * BYTES;
 
 pub type Bits = [u8; BITS];
 
@@ -24,23 +25,24 @@ pub fn field(bits: &Bits, from: usize, n: usize) -> usize {
     number
 }
 
-// Takes the sizes, and then as many cells and nets as these say; an unread second net too.
+// Takes the version and the sizes, and then as many cells and nets as these say; an unread second net too.
 pub fn take(bits: &Bits) -> Plain {
-    let mut list = [0u16; plain::NUMBERS];
-    let mut from = 4;
+    let mut list = plain::empty();
+    let mut from = 0;
     for place in 0..plain::NUMBERS {
         let n = plain::width(&list, place);
-        plain::put(&mut list, place, field(bits, from, n));
+        if n != 0 {
+            plain::put(&mut list, place, field(bits, from, n));
+        }
         from = wrapping_add_usize(from, n);
     }
     list
 }
 
-// The bits of a design: the version, and the numbers in use.
+// The bits of a design in the version of its list.
 pub fn put(list: &Plain) -> Bits {
     let mut bits = [0u8; BITS];
-    bits[3] = 1;
-    let mut from = 4;
+    let mut from = 0;
     for place in 0..plain::NUMBERS {
         let n = plain::width(list, place);
         put_field(&mut bits, from, n, plain::at(list, place));
@@ -63,10 +65,14 @@ fn put_field(bits: &mut Bits, from: usize, n: usize, number: usize) {
 
 // How many bits the fields of a design of these sizes take.
 pub fn end(list: &Plain) -> usize
-    ensures { λ r. ⌜ r ≤ 3000000 ⌝ }
+    ensures { λ r. ⌜ r ≤ 4000000 ⌝ }
 {
     let nets = plain::at(list, plain::LATCHES) + plain::at(list, plain::OUTPUTS);
-    25 + 21 * plain::at(list, plain::COUNT) + 9 * nets
+    let end = 25 + 21 * plain::at(list, plain::COUNT) + 9 * nets;
+    if list[plain::VERSION] != 2 {
+        return end;
+    }
+    end + 18 * plain::at(list, plain::LATCHES)
 }
 
 // The lowest number that applies to the first n bytes, from which a list was taken; 0 for none.
@@ -75,7 +81,7 @@ pub fn number(bits: &Bits, n: usize, list: &Plain) -> usize {
     if n < 4 {
         return 1;
     }
-    if field(bits, 0, 4) != 1 {
+    if list[plain::VERSION] != 1 && list[plain::VERSION] != 2 {
         return 2;
     }
     if recursion::size_over(list) {
@@ -98,6 +104,9 @@ pub fn number(bits: &Bits, n: usize, list: &Plain) -> usize {
     }
     if recursion::loops(list) {
         return 9;
+    }
+    if plain::version(list) < list[plain::VERSION] {
+        return 19;
     }
     0
 }

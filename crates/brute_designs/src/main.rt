@@ -21,7 +21,7 @@ use std::num::wrapping_sub_usize;
 fn main() {
     let mut tally = [0usize; compare::PLACES];
     let mut random: u32 = 2463534242;
-    for round in 0..557 {
+    for round in 0..512 {
         pair(&mut random, &mut tally);
         pair(&mut random, &mut tally);
         drawn_image(&mut random, round, &mut tally);
@@ -33,9 +33,9 @@ fn main() {
 
 // Two designs of few cells, mostly with the same inputs and outputs.
 fn pair(random: &mut u32, tally: &mut Tally) {
-    let mut old = [0u16; plain::NUMBERS];
+    let mut old = plain::empty();
     draw::sizes(random, 5, 17, &mut old);
-    let mut new = [0u16; plain::NUMBERS];
+    let mut new = plain::empty();
     draw::sizes(random, 5, 17, &mut new);
     let kept = below(random, 8);
     if kept != 0 {
@@ -59,18 +59,19 @@ fn any_design(random: &mut u32, sizes: &Plain) -> Plain {
     draw::fill(random, loops, litter, &mut list);
     let way = below(random, 8);
     let place = match below(random, 9) {
-        0 => below(random, 4),
+        0 => plain::INPUTS + below(random, 4),
         1 => plain::CELLS + below(random, 3 * plain::at(&list, plain::COUNT)),
-        2 => plain::DATA + below(random, 15),
+        2 => plain::DATA + below(random, 29),
         _ => plain::NUMBERS,
     };
     draw::spoiled(&list, place, way)
 }
 
-// Writes a design into some slices, with and without numbers beyond its sizes, and reads its image, whole and damaged. The first rounds
-// have as many cells as their number says, the others few.
+// Writes a design into some slices, with and without numbers beyond its sizes, and reads its image, whole and damaged. Half of the images
+// that are damaged are in version 2 whether or not version 1 can hold them. The first rounds have as many cells as their number says, the
+// others few; of these every second gets a loop before it is spoiled.
 fn drawn_image(random: &mut u32, round: usize, tally: &mut Tally) {
-    let mut list = [0u16; plain::NUMBERS];
+    let mut list = plain::empty();
     draw::sizes(random, 7, 7, &mut list);
     let small = 257 <= round;
     if !small {
@@ -86,12 +87,18 @@ fn drawn_image(random: &mut u32, round: usize, tally: &mut Tally) {
     let n = (images::end(&list) + 7) / 8;
     let whole = Answer(0, n, images::BYTES, 0, plain::NUMBERS);
     compare::reads(compare::READ, &bits, n, &list, whole, tally);
+    if below(random, 2) == 0 {
+        list[plain::VERSION] = 2;
+        bits = images::put(&list);
+    }
+    let n = (images::end(&list) + 7) / 8;
     flips(random, &mut bits, n, small, tally);
     lengths(&mut bits, n, tally);
     if small {
-        spoils(&list, tally);
-        let first = plain::first_cell(&list);
-        plain::put(&mut list, plain::CELLS + 1, first);
+        if round % 2 == 0 {
+            let first = plain::first_cell(&list);
+            plain::put(&mut list, plain::CELLS + 1, first);
+        }
         spoils(&list, tally);
     }
 }
@@ -106,12 +113,12 @@ fn rooms(list: &Plain, tally: &mut Tally) {
     compare::writing(compare::WRITE, list, images::BYTES, tally);
 }
 
-// Reads an image with each bit flipped by itself, or thirty drawn ones, and with a drawn one besides. Each change is taken back.
+// Reads an image with each bit flipped by itself, or twenty drawn ones, and with a drawn one besides. Each change is taken back.
 fn flips(random: &mut u32, bits: &mut Bits, n: usize, each: bool, tally: &mut Tally)
-    requires { ⌜ n ≤ 400000 ⌝ }
+    requires { ⌜ n ≤ 500000 ⌝ }
 {
     for k in 0..8 * n {
-        if each || k < 30 {
+        if each || k < 20 {
             let place = if each { k } else { below(random, 8 * n) };
             let other = below(random, 8 * n);
             flip(bits, place);
@@ -133,7 +140,7 @@ fn flip(bits: &mut Bits, place: usize) {
 
 // Reads an image cut at every length, whole, and with one byte behind it, 0 and not 0.
 fn lengths(bits: &mut Bits, n: usize, tally: &mut Tally)
-    requires { ⌜ n ≤ 400000 ⌝ }
+    requires { ⌜ n ≤ 500000 ⌝ }
 {
     compare::reading(compare::CUT, bits, n + 1, tally);
     flip(bits, 8 * n + 1);
@@ -142,11 +149,14 @@ fn lengths(bits: &mut Bits, n: usize, tally: &mut Tally)
     }
 }
 
-// Spoils each number of a design in eight ways, and writes it into slices just long enough for its sizes and a byte short.
+// Spoils in eight ways each number in use and each net of a flip-flop, also of one beyond the sizes, and writes the design into slices just
+// long enough for its sizes and a byte short.
 fn spoils(list: &Plain, tally: &mut Tally) {
-    for way in 0..8 * plain::NUMBERS {
-        if plain::width(list, way / 8) != 0 {
-            let spoiled = draw::spoiled(list, way / 8, way % 8);
+    for way in 8..8 * plain::NUMBERS {
+        let place = way / 8;
+        let latch = plain::DATA <= place && place < plain::SHOWN;
+        if latch || plain::width(list, place) != 0 {
+            let spoiled = draw::spoiled(list, place, way % 8);
             let n = (images::end(&spoiled) + 7) / 8;
             compare::writing(compare::SPOILED, &spoiled, n, tally);
             compare::writing(compare::SPOILED, &spoiled, wrapping_sub_usize(n, 1), tally);

@@ -1,29 +1,48 @@
-// A design as one list of numbers, in the order of the image: four sizes; kind, first net and second net of each of 256 cells (second net
-// 0 where the kind reads one); 7 nets of flip-flops and 8 of outputs. Two designs are the same, also beyond their sizes, when their lists
-// are. Limits and widths are written here again, from document 01, so that a wrong one in the product shows.
+// A design as one list of numbers, in the order of an image of version 2: the version; four sizes; kind, first net and second net of each
+// of 256 cells (second net 0 where the kind reads one); data, enable and clear net of each of 7 flip-flops; 8 nets of outputs. Two designs
+// are the same, also beyond their sizes, when their lists are, but for the version, which a design in memory does not have. Limits and
+// widths are written here again, from document 01 and the requests, so that a wrong one in the product shows.
 ghost use Prim.Native.Nat.{_≤_};
 use netlist::Cell;
 use netlist::Design;
 use netlist::Gate;
 
-pub const INPUTS: usize = 0;
+// The version of the image that the numbers are taken from or written to.
+pub const VERSION: usize = 0;
 
-pub const LATCHES: usize = 1;
+pub const INPUTS: usize = 1;
 
-pub const OUTPUTS: usize = 2;
+pub const LATCHES: usize = 2;
 
-pub const COUNT: usize = 3;
+pub const OUTPUTS: usize = 3;
 
-// Where the cells, the nets of flip-flops and those of outputs begin, and how many numbers there are.
-pub const CELLS: usize = 4;
+pub const COUNT: usize = 4;
 
-pub const DATA: usize = 772;
+// Where the cells begin.
+pub const CELLS: usize = 5;
 
-pub const SHOWN: usize = 779;
+// The nets of the first flip-flop; those of the next stand three places on.
+pub const DATA: usize = 773;
 
-pub const NUMBERS: usize = 787;
+pub const ENABLE: usize = 774;
+
+pub const CLEAR: usize = 775;
+
+// Where the nets of outputs begin, and how many numbers there are.
+pub const SHOWN: usize = 794;
+
+pub const NUMBERS: usize = 802;
 
 pub type Plain = [u16; NUMBERS];
+
+// The empty design: enable net 1, and 0 elsewhere. So the reader leaves what is beyond the sizes, too.
+pub fn empty() -> Plain {
+    let mut list = [0u16; NUMBERS];
+    for k in 0..7 {
+        list[ENABLE + 3 * k] = 1;
+    }
+    list
+}
 
 // The number at a place, 0 past the end.
 pub fn at(list: &Plain, place: usize) -> usize
@@ -55,7 +74,18 @@ pub fn first_cell(list: &Plain) -> usize
     2 + at(list, INPUTS) + at(list, LATCHES)
 }
 
-// How many bits of an image the number at a place takes: 0 beyond the sizes.
+// The lowest version that can hold a design: 1 where each flip-flop has enable net 1 and clear net 0.
+pub fn version(list: &Plain) -> u16 {
+    for k in 0..7 {
+        let plain = list[ENABLE + 3 * k] == 1 && list[CLEAR + 3 * k] == 0;
+        if k < at(list, LATCHES) && !plain {
+            return 2;
+        }
+    }
+    1
+}
+
+// How many bits the number at a place takes in an image of its version: 0 where it has no field.
 pub fn width(list: &Plain, place: usize) -> usize
     ensures { λ r. ⌜ r ≤ 9 ⌝ }
 {
@@ -65,14 +95,14 @@ pub fn width(list: &Plain, place: usize) -> usize
     if place == COUNT {
         return 9;
     }
-    let end = if place < DATA {
-        CELLS + 3 * at(list, COUNT)
+    let used = if place < DATA {
+        place < CELLS + 3 * at(list, COUNT)
     } else if place < SHOWN {
-        DATA + at(list, LATCHES)
+        place < DATA + 3 * at(list, LATCHES) && (place % 3 == DATA % 3 || list[VERSION] == 2)
     } else {
-        SHOWN + at(list, OUTPUTS)
+        place < SHOWN + at(list, OUTPUTS)
     };
-    if end <= place {
+    if !used {
         return 0;
     }
     if place < DATA && place % 3 == CELLS % 3 {
@@ -81,9 +111,9 @@ pub fn width(list: &Plain, place: usize) -> usize
     9
 }
 
-// The first place at which two lists differ, or their length.
+// The first place behind the version at which two lists differ, or their length.
 pub fn first_difference(one: &Plain, other: &Plain) -> usize {
-    for place in 0..NUMBERS {
+    for place in INPUTS..NUMBERS {
         if one[place] != other[place] {
             return place;
         }
@@ -91,7 +121,7 @@ pub fn first_difference(one: &Plain, other: &Plain) -> usize {
     NUMBERS
 }
 
-// The list of a design in memory.
+// The list of a design in memory, with the version that its image has.
 pub fn list_of(d: Design) -> Plain {
     let mut list = [0u16; NUMBERS];
     list[INPUTS] = d.inputs as u16;
@@ -106,12 +136,15 @@ pub fn list_of(d: Design) -> Plain {
         list[CELLS + 3 * i + 1] = numbers.1;
         list[CELLS + 3 * i + 2] = numbers.2;
         if i < 7 {
-            list[DATA + i] = d.data[i];
+            list[DATA + 3 * i] = d.data[i];
+            list[ENABLE + 3 * i] = d.enable[i];
+            list[CLEAR + 3 * i] = d.clear[i];
         }
         if i < 8 {
             list[SHOWN + i] = d.shown[i];
         }
     }
+    list[VERSION] = version(&list);
     list
 }
 
@@ -141,6 +174,8 @@ pub fn design_of(list: &Plain) -> Design {
         count: list[COUNT],
         cells: [Cell { gate: Gate::Buf(0) }; 256],
         data: [0; 7],
+        enable: [0; 7],
+        clear: [0; 7],
         shown: [0; 8],
     };
     for i in 0..256 {
@@ -148,7 +183,9 @@ pub fn design_of(list: &Plain) -> Design {
         let gate = gate_of(list[place], list[place + 1], list[place + 2]);
         d.cells[i] = Cell { gate };
         if i < 7 {
-            d.data[i] = list[DATA + i];
+            d.data[i] = list[DATA + 3 * i];
+            d.enable[i] = list[ENABLE + 3 * i];
+            d.clear[i] = list[CLEAR + 3 * i];
         }
         if i < 8 {
             d.shown[i] = list[SHOWN + i];

@@ -67,11 +67,13 @@ fn deeper(list: &Plain, net: usize, turns: usize) -> bool
     deeper(list, plain::at(list, place + 2), turns - 1)
 }
 
-// The next state of the entry at a place of the tables, or its output: the values of n nets, the first most significant.
-pub fn word(list: &Plain, entry: usize, from: usize, n: usize) -> usize {
+// What n nets of a list spell at an entry of the tables, the first most significant. They stand so many places apart.
+pub fn word(list: &Plain, entry: usize, from: usize, apart: usize, n: usize) -> usize {
     let mut number = 0;
-    for k in 0..n {
-        let net = plain::at(list, std::num::wrapping_add_usize(from, k));
+    let mut place = from;
+    for _ in 0..n {
+        let net = plain::at(list, place);
+        place = std::num::wrapping_add_usize(place, apart);
         let one = value(list, entry, net, plain::at(list, plain::COUNT));
         number = (number << 1) | one as usize;
     }

@@ -7,19 +7,21 @@ use crate::images::Bits;
 use crate::plain;
 use crate::plain::Plain;
 
-// Prints how often each number was expected of each kind of comparison.
+// Prints how often each number was expected of each kind of comparison, and how often in version 2.
 pub fn counts(tally: &Tally) {
-    for place in 0..DISAGREEMENTS {
-        if place % 16 == 0 {
-            name(place / 16);
+    io::write_all(1, b"NUMBER: HOW OFTEN, AND HOW OFTEN IN VERSION 2\n");
+    for row in 0..DISAGREEMENTS / 2 {
+        if row % 20 == 0 {
+            name(row / 20);
         }
-        if tally[place] != 0 {
+        if tally[2 * row] != 0 {
             io::write_all(1, b"\n ");
-            spaced(place % 16);
+            spaced(row % 20);
             io::write_all(1, b":");
-            spaced(tally[place]);
+            spaced(tally[2 * row]);
+            spaced(tally[2 * row + 1]);
         }
-        if place % 16 == 15 {
+        if row % 20 == 19 {
             io::write_all(1, b"\n");
         }
     }
@@ -63,7 +65,7 @@ fn answer(a: Answer) {
     io::write_all(1, b"\n");
 }
 
-// Prints the numbers of a design that are in use: sizes, kind and nets of each cell, nets of flip-flops and outputs.
+// Prints the numbers of a design that are in use: version, sizes, kind and nets of each cell, nets of flip-flops and outputs.
 pub fn numbers(list: &Plain) {
     io::write_all(1, b"  DESIGN");
     for place in 0..plain::NUMBERS {

@@ -10,14 +10,14 @@ use denote.Enum.Declared.{tagOf}
 use Rattle.numbers.proofs.Order.{stable, le-of-not-lt}
 use Rattle.memory.specs.Meaning.Refusals.{Free, Keeps, Reply, answer, refusal}
 use Rattle.memory.specs.Meaning.Slices.{Zero, Cleared}
-use Rattle.memory.specs.Working.Lowest.{Numbered}
+use Rattle.memory.specs.Working.Lowest.{Numbered, UpTo16}
 use Rattle.memory.proofs.Orders.{first-map}
-use Rattle.memory.proofs.Table.{first-of-lowest, lowest-of-first}
+use Rattle.memory.proofs.Table.{up-to-16, first-of-lowest, lowest-of-first}
 use Rattle.netlist.specs.declared.Design.{Design}
 use Rattle.netlist.specs.Meaning.Faults.{Accepted}
 use Rattle.netlist.proofs.Numbers.{fault-bounds}
 use Rattle.simulator.specs.declared.TabulatedBoth.{TabulatedBoth}
-use Rattle.simulator.proofs.Faults.{both-numbered}
+use Rattle.simulator.proofs.Faults.{both-among, both-numbered}
 use Rattle.simulator.proofs.Room.{zero-tables}
 use Rattle.simulator.specs.Meaning.Tables.{HoldsDesign, TableFault, InterfaceFault, BothFault, TabulatesBoth}
 use Rattle.machine.specs.declared.Sizes.{Sizes}
@@ -142,10 +142,13 @@ both-most (BothFault.new (TableFault.out h)) = omega arith
 both-most (BothFault.interface (InterfaceFault.other-inputs d)) = omega arith
 both-most (BothFault.interface (InterfaceFault.other-outputs d)) = omega arith
 
+pub compare-among : {a b : Design} {n : TablesLent} {s : Lent} → UpTo16 (CompareFault a b n s)
+compare-among {a} {b} m (CompareFault.tabulating f) = both-among a b _ _ _ _ m f
+compare-among m (CompareFault.scratch h) = (omega arith, omega arith)
+compare-among m (CompareFault.list f) = (omega (arith, short-16 f), omega (arith, short-16 f))
+
 pub compare-numbered : {a b : Design} {n : TablesLent} {s : Lent} → Numbered (CompareFault a b n s)
-compare-numbered {a} {b} m (CompareFault.tabulating f) = both-numbered a b _ _ _ _ m f
-compare-numbered m (CompareFault.scratch h) = (omega arith, omega arith)
-compare-numbered m (CompareFault.list f) = (omega (arith, short-16 f), omega (arith, short-16 f))
+compare-numbered = up-to-16 compare-among
 
 pub refused-first : (a b : Design) (n : TablesLent) (s : Lent) (k : ℕ) (next0 out0 next1 out1 depth reach written : List ℕ)
     → TabulatesBoth a b (n .old-next) (n .old-out) (n .new-next) (n .new-out) (TabulatedBoth.Refused k) next0 out0 next1 out1

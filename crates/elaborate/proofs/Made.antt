@@ -6,7 +6,7 @@ use native.Mathlib.Omega.{arith}
 use native.Mathlib.Nat.{zero-add}
 use native.Mathlib.Decide.{decLt}
 use borrow.Author.Tests.{le-ltb}
-use lib.ListN.{length, getD}
+use lib.ListN.{length, getD, replicate}
 use lib.Seq.{ext-getD}
 use Rattle.memory.specs.Meaning.Lists.{listOf}
 use Rattle.memory.specs.Meaning.Refusals.{FirstOrNone}
@@ -52,7 +52,7 @@ module _ (d : Drawing) (count : ℕ) (is : count ≡ length (negated d)) where
 
   pub made : (n : ℕ) (cells : List Cell) (reads shows : List ℕ) → n ≡ d .ands + count → Filled (cellOf d) blankCell mostCells (d .ands + count) cells
       → Filled (λ k. netOf d (readAt d (0 + k))) 0 mostLatches (d .latches) reads → Filled (λ k. netOf d (readAt d (d .latches + k))) 0 mostOutputs (d .outputs) shows
-      → _≡_ {A = Design} (record { inputs = d .inputs; latches = d .latches; outputs = d .outputs; count = n; cells = cells; «data» = reads; shown = shows }) (drawn d)
+      → _≡_ {A = Design} (record { inputs = d .inputs; latches = d .latches; outputs = d .outputs; count = n; cells = cells; «data» = reads; enable = replicate mostLatches 1; clear = replicate mostLatches 0; shown = shows }) (drawn d)
   unfolding drawn
   made n cells reads shows e fc fd fs =
       let c = all-cells cells fc in

@@ -6,7 +6,7 @@ use native.Mathlib.Omega.{arith}
 use native.Mathlib.Decide.{decLt}
 use borrow.Author.Tests.{lt-ltb, le-ltb}
 use lib.Dec.{ltb}
-use lib.ListN.{length, getD}
+use lib.ListN.{length, getD, getD-replicate}
 use Rattle.numbers.proofs.Order.{le-of-not-lt}
 use Rattle.memory.specs.Meaning.Lists.{listOf}
 use Rattle.memory.proofs.Lists.{getD-listOf, entry-listOf}
@@ -17,6 +17,8 @@ use Rattle.netlist.specs.Meaning.Nets.{netsOf, gateAt}
 use Rattle.netlist.specs.Working.Sound.{NetsBelow}
 use Rattle.netlist.specs.Meaning.Faults.{DesignFault, Accepted}
 use Rattle.netlist.proofs.Numbers.{not-5, accepted-of}
+use Rattle.format.specs.Meaning.Version.{versionOf}
+use Rattle.format.proofs.Versions.{one-version}
 use Rattle.drawing.specs.declared.Drawing.{Drawing}
 use Rattle.drawing.specs.Meaning.Numbers.{next, shown, first, second}
 use Rattle.drawing.specs.Meaning.Wires.{negated, netOf, andCell, notCell, cellOf, drawn}
@@ -53,6 +55,20 @@ module _ {d : Drawing} (s : Spelled d) where
   unfolding drawn
   drawn-shown k h = entry-listOf (λ j. netOf d (shown d j)) 0 (d .outputs) mostOutputs k (s .few-outputs) h
 
+  -- every flip-flop takes its data at every clock
+  pub drawn-enable : (k : ℕ) → k < d .latches → getD (drawn d .enable) k 0 ≡ 1
+  unfolding drawn
+  drawn-enable k h = getD-replicate mostLatches k 1 0 (omega (arith, s .few-latches))
+
+  pub drawn-clear : (k : ℕ) → k < d .latches → getD (drawn d .clear) k 0 ≡ 0
+  unfolding drawn
+  drawn-clear k h = getD-replicate mostLatches k 0 0 (omega (arith, s .few-latches))
+
+  -- so the image of a drawing has version 1
+  pub drawn-version : versionOf (drawn d) ≡ 1
+  unfolding drawn
+  drawn-version = one-version (drawn d) (λ k h. (drawn-enable k h, drawn-clear k h))
+
 pub drawn-nets : (d : Drawing) → netsOf (drawn d) ≡ netCount d
 unfolding drawn
 drawn-nets d = omega arith
@@ -81,6 +97,8 @@ module _ {d : Drawing} (s : Spelled d) (served : DrawingFault d 18 → ⊥) (few
   unfolding drawn
   drawn-5 = not-5 below
       (λ k h. rw (drawn-nets d, drawn-data s k h) (net-low s served (next d k) (read-next d k h)))
+      (λ k h. rw (drawn-enable s k h) (omega arith))
+      (λ k h. rw (drawn-clear s k h) (omega arith))
       (λ k h. rw (drawn-nets d, drawn-shown s k h) (net-low s served (shown d k) (read-shown d k h)))
 
 -- "3 .., 5 and 9 find nothing in it": the design of a drawing that is not turned away is accepted

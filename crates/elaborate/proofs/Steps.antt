@@ -10,6 +10,7 @@ use Rattle.numbers.proofs.Order.{le-of-not-lt}
 use Rattle.numbers.proofs.Digits.{horner-cong}
 use Rattle.limits.specs.Meaning.Limits.{mostCells}
 use Rattle.netlist.specs.Meaning.Nets.{cellBase, value, Satisfies, nextState, outputs}
+use Rattle.netlist.proofs.Plain.{plain-bit}
 use Rattle.netlist.proofs.Values.{value-satisfies, value-unique}
 use Rattle.drawing.specs.declared.Drawing.{Drawing}
 use Rattle.drawing.specs.Meaning.Lists.{has, place}
@@ -21,7 +22,7 @@ use Rattle.drawing.specs.Working.Places.{owns, own}
 use Rattle.drawing.specs.Working.Wiring.{Spelled}
 use Rattle.drawing.proofs.Places.{place-owner, read-next, read-shown}
 use Rattle.drawing.proofs.Nets.{netCount, net-low, net-own}
-use Rattle.elaborate.proofs.Ranges.{drawn-data, drawn-shown, drawn-nets, drawn-accepted}
+use Rattle.elaborate.proofs.Ranges.{drawn-data, drawn-enable, drawn-clear, drawn-shown, drawn-nets, drawn-accepted}
 use Rattle.elaborate.proofs.Matching.{source-constant, not-value, Matches, net-literal, satisfies, evaluates}
 
 -- the values of nets that values of variables give
@@ -80,7 +81,7 @@ module _ {d : Drawing} (sp : Spelled d) (free : (n : ℕ) → DrawingFault d n �
     pub drawn-steps : (nextState (drawn d) s v ≡ nextOf d f) × (outputs (drawn d) s v ≡ outputsOf d f)
     unfolding drawn
     drawn-steps = (
-      horner-cong _ _ (d .latches) (λ k h. ap (value (drawn d) s v) (drawn-data sp k h) ∙ read-is (next d k) (read-next d k h)),
+      horner-cong _ _ (d .latches) (λ k h. plain-bit (drawn d) s v k (drawn-enable sp k h) (drawn-clear sp k h) ∙ ap (value (drawn d) s v) (drawn-data sp k h) ∙ read-is (next d k) (read-next d k h)),
       horner-cong _ _ (d .outputs) (λ k h. ap (value (drawn d) s v) (drawn-shown sp k h) ∙ read-is (shown d k) (read-shown d k h)),
     )
 

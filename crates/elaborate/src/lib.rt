@@ -54,6 +54,8 @@ fn assembled(d: Drawing, w: Wires) -> Design
         count: count as u16,
         cells,
         data,
+        enable: [1u16; Image::MOST_LATCHES],
+        clear: [0u16; Image::MOST_LATCHES],
         shown,
     }
 }

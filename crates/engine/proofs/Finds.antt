@@ -8,15 +8,15 @@ use lib.Seq.{length-take-le}
 use Rattle.numbers.proofs.Order.{not-lt, lt-of-not-le}
 use Rattle.memory.specs.Meaning.Refusals.{Free, First, FirstOrNone, Keeps}
 use Rattle.memory.specs.Meaning.Slices.{Zero}
-use Rattle.memory.specs.Working.Lowest.{Numbered}
+use Rattle.memory.specs.Working.Lowest.{Numbered, UpTo16}
 use Rattle.memory.proofs.Refusals.{some-number, lowest-number, no-number, first-early}
-use Rattle.memory.proofs.Table.{first-of-lowest}
+use Rattle.memory.proofs.Table.{up-to-16, first-of-lowest}
 use Rattle.machine.specs.declared.Found.{Found}
 use Rattle.machine.specs.declared.Pair.{Pair}
 use Rattle.machine.specs.Meaning.Tables.{Tables, In}
 use Rattle.machine.specs.Meaning.Faults.{TablesFault}
 use Rattle.seek.specs.Working.Steps.{Outcome, missing, short, steps}
-use Rattle.table_faults.proofs.Refusals.{fault-most, tables-numbered}
+use Rattle.table_faults.proofs.Refusals.{fault-most, tables-among}
 use Rattle.machine.specs.Meaning.Lent.{Lent, Listed}
 use Rattle.engine.specs.Meaning.Pairs.{foundReply, StateFault, PairFault}
 
@@ -27,10 +27,13 @@ module _ {t : Tables} {room : ℕ} {p : Pair} where
   state-most (StateFault.old-state h) = omega arith
   state-most (StateFault.new-state h) = omega arith
 
+  pub state-among : UpTo16 (StateFault t room p)
+  state-among n (StateFault.call f) = tables-among n f
+  state-among n (StateFault.old-state h) = (omega arith, omega arith)
+  state-among n (StateFault.new-state h) = (omega arith, omega arith)
+
   pub state-numbered : Numbered (StateFault t room p)
-  state-numbered n (StateFault.call f) = tables-numbered n f
-  state-numbered n (StateFault.old-state h) = (omega arith, omega arith)
-  state-numbered n (StateFault.new-state h) = (omega arith, omega arith)
+  state-numbered = up-to-16 state-among
 
   pub at-call : {n : ℕ} → (n ≡ 0 → ⊥) → FirstOrNone (TablesFault t room) n → FirstOrNone (StateFault t room p) n
   at-call e l = some-number (first-early (TablesFault t room) (StateFault t room p) 14 state-numbered (λ m f. StateFault.call f) (λ m f h. go f h) (omega (arith, fault-most (l .some e .applies))) (l .some e))
@@ -70,10 +73,13 @@ module _ (t : Tables) (s : Lent) (p : Pair) (None : Type 0) (Sought : List ℕ �
   abbrev Wrong : ℕ → Type 0
   Wrong n = PairFault t s p None Sought n
 
+  pub pair-among : UpTo16 (PairFault t s p None Sought)
+  pair-among n (PairFault.state f) = state-among n f
+  pair-among n (PairFault.none o) = (omega arith, omega arith)
+  pair-among n (PairFault.short-list l o h) = (omega arith, omega arith)
+
   pub pair-numbered : Numbered (PairFault t s p None Sought)
-  pair-numbered n (PairFault.state f) = state-numbered n f
-  pair-numbered n (PairFault.none o) = (omega arith, omega arith)
-  pair-numbered n (PairFault.short-list l o h) = (omega arith, omega arith)
+  pair-numbered = up-to-16 pair-among
 
   pub lowest-state : {n : ℕ} → First (StateFault t (min (s .depth) (s .reach)) p) n → First Wrong n
   lowest-state l = first-early (StateFault t (min (s .depth) (s .reach)) p) Wrong 15 pair-numbered (λ m f. PairFault.state f) (λ m f h. go f h) (omega (arith, state-most (l .applies))) l

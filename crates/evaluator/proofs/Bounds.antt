@@ -10,7 +10,7 @@ use lib.ListN.{getD}
 use Rattle.numbers.specs.Meaning.Bits.{bitOf}
 use Rattle.numbers.proofs.Digits.{horner-lt}
 use Rattle.netlist.specs.declared.Design.{Design}
-use Rattle.netlist.specs.Meaning.Nets.{cellBase, netsOf, gateAt, gateValue, source, settled, value, nextBit, outputBit, nextState, outputs, statesOf}
+use Rattle.netlist.specs.Meaning.Nets.{cellBase, netsOf, gateAt, latched, gateValue, source, settled, value, nextBit, outputBit, nextState, outputs, statesOf}
 use Rattle.evaluator.proofs.Truth.{truth-lt}
 
 pub source-lt : (d : Design) (s v n : ℕ) → source d s v n < 2
@@ -38,8 +38,19 @@ settled-lt d s v (suc r) n = settle-lt d (settled d s v r) n (settled-lt d s v r
 pub value-lt : (d : Design) (s v n : ℕ) → value d s v n < 2
 value-lt d s v n = settled-lt d s v (d .count) n
 
+-- a flip-flop takes 0, its data or what it holds
+pub latched-lt : (c e x h : ℕ) → x < 2 → h < 2 → latched c e x h < 2
+latched-lt zero zero x h p q = q
+latched-lt zero (suc e) x h p q = p
+latched-lt (suc c) e x h p q = lit< tt
+
 pub next-state-lt : (d : Design) (s v : ℕ) → nextState d s v < statesOf d
-next-state-lt d s v = horner-lt (nextBit d s v) (d .latches) (λ j. value-lt d s v (getD (d .«data») j 0))
+next-state-lt d s v = horner-lt (nextBit d s v) (d .latches) bit
+  where
+    bit : (k : ℕ) → nextBit d s v k < 2
+    bit k =
+        latched-lt (value d s v (getD (d .clear) k 0)) (value d s v (getD (d .enable) k 0)) (value d s v (getD (d .«data») k 0)) (bitOf (d .latches) s k)
+        (value-lt d s v (getD (d .«data») k 0)) (mod-lt _ (lit< tt))
 
 pub outputs-lt : (d : Design) (s v : ℕ) → outputs d s v < 2 ^ d .outputs
 outputs-lt d s v = horner-lt (outputBit d s v) (d .outputs) (λ j. value-lt d s v (getD (d .shown) j 0))

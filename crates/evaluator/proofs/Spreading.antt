@@ -28,7 +28,7 @@ source-input d s v j h =
     let e : 2 + j - 2 ≡ j = omega arith in
     simp (le-ltb (2 + j) 2 (omega arith), lt-ltb (2 + j) (2 + d .inputs) (omega arith), e)
 
-source-latch : (d : Design) (s v j : ℕ) → source d s v (2 + d .inputs + j) ≡ bitOf (d .latches) s j
+pub source-latch : (d : Design) (s v j : ℕ) → source d s v (2 + d .inputs + j) ≡ bitOf (d .latches) s j
 source-latch d s v j =
     let e : 2 + d .inputs + j - (2 + d .inputs) ≡ j = omega arith in
     simp (le-ltb (2 + d .inputs + j) 2 (omega arith), le-ltb (2 + d .inputs + j) (2 + d .inputs) (omega arith), e)

@@ -8,9 +8,9 @@ ghost use lib.ListN.{length, getD};
 ghost use Rattle.numbers.specs.Meaning.Bits.{horner};
 ghost use Rattle.memory.specs.Working.Filling.{Filled};
 ghost use Rattle.netlist.specs.Meaning.Gates.{firstOf, secondOf, truth};
-ghost use Rattle.netlist.specs.Meaning.Nets.{cellBase, gateValue, source, value, nextState, outputs};
+ghost use Rattle.netlist.specs.Meaning.Nets.{cellBase, gateValue, source, value, latched, nextState, outputs};
 ghost use Rattle.netlist.specs.Working.Sound.{Sound};
-ghost use Rattle.evaluator.specs.Working.Values.{mostNets, Evaluable, Holds, Readable, Spreads};
+ghost use Rattle.evaluator.specs.Working.Values.{mostNets, Evaluable, Holds, Readable, Latchable, latchedIn, Spreads};
 use limits::Image;
 use netlist::Design;
 use netlist::Gate;
@@ -27,7 +27,10 @@ pub fn step(d: Design, cells: [u16; Image::MOST_CELLS], s: usize, v: usize) -> S
 {
     let vals = values(d, cells, s, v);
     let data = d.data;
-    let next = word(&data, d.latches as usize, &vals);
+    let enable = d.enable;
+    let clear = d.clear;
+    let own = 2 + d.inputs as usize;
+    let next = next_word(&data, &enable, &clear, own, d.latches as usize, &vals);
     let shown = d.shown;
     let out = word(&shown, d.outputs as usize, &vals);
     Stepped { next, out }
@@ -114,6 +117,52 @@ fn two(kind: u16, a: u8, b: u8) -> u8
     (row >> (2 * a + b)) % 2
 }
 
+// The number that n flip-flops hold after the clock, the first most significant. `own` is the net of the first.
+fn next_word(
+    data: &[u16],
+    enable: &[u16],
+    clear: &[u16],
+    own: usize,
+    n: usize,
+    vals: &[u8; Image::MOST_NETS],
+) -> u8
+    requires { ⌜ Latchable (now «data») (now enable) (now clear) own n (now vals) ⌝ }
+    ensures { λ r. ⌜ r ≡ horner (latchedIn (now («data» .entry)) (now (enable .entry)) (now (clear .entry)) own (now (vals .entry))) n ⌝ }
+{
+    let mut r: u8 = 0;
+    let mut k = 0;
+    while k < n {
+        let c = value_of(clear, k, vals);
+        let e = value_of(enable, k, vals);
+        let x = value_of(data, k, vals);
+        r = r * 2 + latch(c, e, x, vals[own + k]);
+        k += 1;
+    }
+    r
+}
+
+// The value of the net at a place of a list.
+fn value_of(nets: &[u16], k: usize, vals: &[u8; Image::MOST_NETS]) -> u8
+    requires { ⌜ getD (now nets) k 0 < mostNets ⌝ }
+    ensures { λ r. ⌜ r ≡ getD (now (vals .entry)) (getD (now (nets .entry)) k 0) 0 ⌝ }
+{
+    let net = netlist::net_at(nets, k);
+    vals[net]
+}
+
+// What a flip-flop that holds a bit makes of its three values.
+fn latch(clear: u8, enable: u8, data: u8, held: u8) -> u8
+    ensures { λ r. ⌜ r ≡ latched clear enable «data» held ⌝ }
+{
+    if clear != 0 {
+        return 0;
+    }
+    if enable != 0 {
+        return data;
+    }
+    held
+}
+
 // The number that the values of the first n nets of a list spell, the first net most significant.
 fn word(nets: &[u16], n: usize, vals: &[u8; Image::MOST_NETS]) -> u8
     requires { ⌜ Readable (now nets) n (now vals) ⌝ }
@@ -122,8 +171,7 @@ fn word(nets: &[u16], n: usize, vals: &[u8; Image::MOST_NETS]) -> u8
     let mut r: u8 = 0;
     let mut k = 0;
     while k < n {
-        let net = netlist::net_at(nets, k);
-        r = r * 2 + vals[net];
+        r = r * 2 + value_of(nets, k, vals);
         k += 1;
     }
     r

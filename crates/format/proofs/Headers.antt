@@ -11,8 +11,8 @@ module _ {b : List ℕ} {h : Header} (w : SpellsHeader b h) where
   pub nets-in : 2 + h .inputs + h .latches + h .count ≡ netsIn b
   nets-in = rw (w .inputs, w .latches, w .count)
 
-  pub bits-in : bitsFor (h .count) (h .latches) (h .outputs) ≡ bitsIn b
-  bits-in = rw (w .count, w .latches, w .outputs)
+  pub bits-in : bitsFor (h .version) (h .count) (h .latches) (h .outputs) ≡ bitsIn b
+  bits-in = rw (w .version, w .count, w .latches, w .outputs)
 
-  pub bytes-in : bytesFor (h .count) (h .latches) (h .outputs) ≡ bytesIn b
-  bytes-in = rw (w .count, w .latches, w .outputs)
+  pub bytes-in : bytesFor (h .version) (h .count) (h .latches) (h .outputs) ≡ bytesIn b
+  bytes-in = rw (w .version, w .count, w .latches, w .outputs)

@@ -1,4 +1,5 @@
 pub mod Gates
+pub mod Versions
 pub mod Refusals
 pub mod Headers
 pub mod Decoding

@@ -1,15 +1,20 @@
 -- Which numbers apply to an image.
 use Prim.Native.Nat.{ℕ, zero, suc, _*_, _<_, _≤_}
-use mathlib.Core.Path.{_≡_}
+use mathlib.Core.Path.{_≡_, refl}
+use mathlib.Core.Logic.{_⊎_, inl, inr, ⊎-elim}
+use mathlib.Core.Bool.{Bool, _&&_, _||_}
 use mathlib.Core.List.{List}
 use native.Mathlib.Omega.{arith}
 use native.Mathlib.Nat.{not-suc-le-zero}
-use lib.Dec.{lit<, lit≤}
+use native.Mathlib.Decide.{ℕ-discrete}
+use borrow.Author.Tests.{lt-ltb}
+use lib.Dec.{T, ltb, eqb, lit<, lit≤}
 use lib.ListN.{length}
 use Rattle.numbers.proofs.Order.{not-lt, le-of-not-lt}
 use Rattle.memory.specs.Meaning.Refusals.{Free, FirstOrNone}
 use Rattle.memory.specs.Working.Lowest.{Numbered}
 use Rattle.memory.proofs.Refusals.{Clean, clean-more, lowest-number, no-number}
+use Rattle.memory.proofs.Table.{numbered-by, numbered-of}
 use Rattle.reader.specs.Meaning.Fields.{bitAt}
 use Rattle.format.specs.Meaning.Format.{versionIn, countIn, bitsIn, bytesIn, kindIn, secondIn}
 use Rattle.format.specs.Meaning.Faults.{ImageFault, HeaderFault}
@@ -19,29 +24,44 @@ use Rattle.format.specs.Working.Scanning.{WithinLimits}
 pub no-0 : {b : List ℕ} → ImageFault b 0 → ⊥
 no-0 = elim [ ]
 
--- no number is over 9
-pub small : {b : List ℕ} {n : ℕ} → ImageFault b n → n < 10
-small (ImageFault.short l) = lit< tt
-small (ImageFault.version l) = lit< tt
-small (ImageFault.inputs l) = lit< tt
-small (ImageFault.latches l) = lit< tt
-small (ImageFault.outputs l) = lit< tt
-small (ImageFault.cells l) = lit< tt
-small (ImageFault.ends l) = lit< tt
-small (ImageFault.first i h l) = lit< tt
-small (ImageFault.second i h l) = lit< tt
-small (ImageFault.tail t h l) = lit< tt
-small (ImageFault.unread i h k l) = lit< tt
-small (ImageFault.pad i h k l) = lit< tt
-small (ImageFault.over l) = lit< tt
-small (ImageFault.loop i p) = lit< tt
+-- no number is over 9 but 19
+pub small : {b : List ℕ} {n : ℕ} → ImageFault b n → (n < 10) ⊎ ((n ≡ 19) × ImageFault b 19)
+small (ImageFault.short l) = inl (lit< tt)
+small (ImageFault.version l m) = inl (lit< tt)
+small (ImageFault.inputs l) = inl (lit< tt)
+small (ImageFault.latches l) = inl (lit< tt)
+small (ImageFault.outputs l) = inl (lit< tt)
+small (ImageFault.cells l) = inl (lit< tt)
+small (ImageFault.ends l) = inl (lit< tt)
+small (ImageFault.first i h l) = inl (lit< tt)
+small (ImageFault.second i h l) = inl (lit< tt)
+small (ImageFault.read k h l) = inl (lit< tt)
+small (ImageFault.enable k h l) = inl (lit< tt)
+small (ImageFault.clear k h l) = inl (lit< tt)
+small (ImageFault.shown k h l) = inl (lit< tt)
+small (ImageFault.unread i h k l) = inl (lit< tt)
+small (ImageFault.pad i h k l) = inl (lit< tt)
+small (ImageFault.over l) = inl (lit< tt)
+small (ImageFault.loop i p) = inl (lit< tt)
+small (ImageFault.needless v p) = inr (refl, ImageFault.needless v p)
+
+-- the numbers of images rise in the order: 1 to 9, and 19
+of-image : ℕ → Bool
+of-image n = (ltb 0 n && ltb n 10) || eqb n 19
 
 pub image-numbered : {b : List ℕ} → Numbered (ImageFault b)
-image-numbered zero f = absurd (no-0 f)
-image-numbered (suc n) f = (omega arith, omega (arith, small f))
+unfolding of-image
+image-numbered {b} = numbered-by of-image 20 tt tt (λ n f. among n f (small f)) (λ n f. ⊎-elim (λ l. omega arith) (λ e. omega (arith, e .0)) (small f))
+  where
+    low : (n : ℕ) → 0 < n → n < 10 → T ((ltb 0 n && ltb n 10) || eqb n 19)
+    low n h l = rw (lt-ltb 0 n h, lt-ltb n 10 l) tt
+
+    among : (n : ℕ) → ImageFault b n → (n < 10) ⊎ ((n ≡ 19) × ImageFault b 19) → T ((ltb 0 n && ltb n 10) || eqb n 19)
+    among zero f s = absurd (no-0 f)
+    among (suc n) f s = ⊎-elim (λ l. low (suc n) (omega arith) l) (λ e. rw (e .0) tt) s
 
 pub header-numbered : {b : List ℕ} → Numbered (HeaderFault b)
-header-numbered n f = image-numbered n (f .0)
+header-numbered = numbered-of (λ n f. f .0) image-numbered
 
 pub refused : {b : List ℕ} (n : ℕ) → ImageFault b n → Clean (ImageFault b) n → FirstOrNone (ImageFault b) n
 refused n p c = lowest-number image-numbered (record { applies = p; lower = c })
@@ -50,8 +70,16 @@ refused n p c = lowest-number image-numbered (record { applies = p; lower = c })
 pub no-1 : {b : List ℕ} → 4 ≤ length b → ImageFault b 1 → ⊥
 no-1 h (ImageFault.short l) = not-lt h l
 
-pub no-2 : {b : List ℕ} → versionIn b ≡ 1 → ImageFault b 2 → ⊥
-no-2 h (ImageFault.version l) = l h
+pub no-2 : {b : List ℕ} → (versionIn b ≡ 1) ⊎ (versionIn b ≡ 2) → ImageFault b 2 → ⊥
+no-2 h (ImageFault.version l m) = ⊎-elim l m h
+
+pub version-cases : {b : List ℕ} → (ImageFault b 2 → ⊥) → (versionIn b ≡ 1) ⊎ (versionIn b ≡ 2)
+version-cases {b} n = go (ℕ-discrete (versionIn b) 1) (ℕ-discrete (versionIn b) 2)
+  where
+    go : Dec (versionIn b ≡ 1) → Dec (versionIn b ≡ 2) → (versionIn b ≡ 1) ⊎ (versionIn b ≡ 2)
+    go (yes e) t = inl e
+    go (no e) (yes f) = inr f
+    go (no e) (no f) = absurd (n (ImageFault.version e f))
 
 pub no-3 : {b : List ℕ} → WithinLimits b → ImageFault b 3 → ⊥
 no-3 f (ImageFault.inputs l) = not-lt (f .few-inputs) l
@@ -78,10 +106,10 @@ clean-1 {b} = clean-more (ImageFault b) 0 (λ m h f. not-suc-le-zero h) no-0
 pub clean-2 : {b : List ℕ} → 4 ≤ length b → Clean (ImageFault b) 2
 clean-2 {b} h = clean-more (ImageFault b) 1 clean-1 (no-1 h)
 
-pub clean-3 : {b : List ℕ} → 4 ≤ length b → versionIn b ≡ 1 → Clean (ImageFault b) 3
+pub clean-3 : {b : List ℕ} → 4 ≤ length b → (versionIn b ≡ 1) ⊎ (versionIn b ≡ 2) → Clean (ImageFault b) 3
 clean-3 {b} h v = clean-more (ImageFault b) 2 (clean-2 h) (no-2 v)
 
-pub clean-4 : {b : List ℕ} → 4 ≤ length b → versionIn b ≡ 1 → (ImageFault b 3 → ⊥) → Clean (ImageFault b) 4
+pub clean-4 : {b : List ℕ} → 4 ≤ length b → (versionIn b ≡ 1) ⊎ (versionIn b ≡ 2) → (ImageFault b 3 → ⊥) → Clean (ImageFault b) 4
 clean-4 {b} h v s = clean-more (ImageFault b) 3 (clean-3 h v) s
 
 -- a number of the header

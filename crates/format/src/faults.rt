@@ -1,11 +1,13 @@
 // What is wrong with an image.
 ghost use mathlib.Core.Path.{_≡_};
+ghost use mathlib.Core.Logic.{_⊎_};
 ghost use mathlib.Core.List.{List};
 ghost use Prim.Native.Nat.{ℕ, _+_, _-_, _*_, _^_, _<_, _≤_};
 ghost use lib.ListN.{length};
 ghost use Rattle.memory.specs.Meaning.Refusals.{Free, FirstOrNone};
 ghost use Rattle.memory.specs.Working.Tests.{Tells, Splits};
 ghost use Rattle.netlist.specs.Meaning.Faults.{DesignFault};
+ghost use Rattle.format.specs.Meaning.Version.{versionOf};
 ghost use Rattle.limits.specs.Meaning.Layout.{countBits};
 ghost use Rattle.reader.specs.Meaning.Fields.{fieldAt};
 ghost use Rattle.format.specs.Meaning.Format.{decoded, countIn};
@@ -23,7 +25,7 @@ pub fn header_fault(bytes: usize, h: Header) -> u8
     if bytes < 4 {
         return 1;
     }
-    if h.version != 1 {
+    if other_version(h.version) {
         return 2;
     }
     if over_limit(h) {
@@ -33,6 +35,19 @@ pub fn header_fault(bytes: usize, h: Header) -> u8
         return 4;
     }
     0
+}
+
+// Whether a version is neither 1 nor 2.
+fn other_version(version: u16) -> bool
+    ensures { λ r. ⌜ Splits r ((version ≡ 1 → ⊥) × (version ≡ 2 → ⊥)) ((version ≡ 1) ⊎ (version ≡ 2)) ⌝ }
+{
+    if version == 1 {
+        return false;
+    }
+    if version == 2 {
+        return false;
+    }
+    true
 }
 
 fn over_limit(h: Header) -> bool
@@ -53,10 +68,11 @@ fn over_limit(h: Header) -> bool
     false
 }
 
-// The lowest number that applies to an image whose header is sound, or 0. `found` is what its design was found to have: that is 5 for
-// a net that is read, and 9. Nets that no cell reads, the pad and the length are left to look at.
-pub fn field_fault(image: &[u8], h: Header, found: u8) -> u8
-    requires { ⌜ (SpellsHeader (now image) h) × ((Free (HeaderFault (now image))) × (FirstOrNone (DesignFault (decoded (now image))) found)) ⌝ }
+// The first number that applies to an image whose header is sound, or 0. `found` is what its design was found to have: that is 5 for
+// a net that is read, and 9; `needed` is the version that the design needs. Nets that no cell reads, the pad, the length and a version
+// that is not needed are left to look at.
+pub fn field_fault(image: &[u8], h: Header, found: u8, needed: u16) -> u8
+    requires { ⌜ (SpellsHeader (now image) h) × ((Free (HeaderFault (now image))) × ((FirstOrNone (DesignFault (decoded (now image))) found) × (needed ≡ versionOf (decoded (now image))))) ⌝ }
     ensures { λ r. ⌜ FirstOrNone (ImageFault (now (image .entry))) r ⌝ }
 {
     if found == 5 {
@@ -76,7 +92,13 @@ pub fn field_fault(image: &[u8], h: Header, found: u8) -> u8
     if image.len() > bytes {
         return 8;
     }
-    found
+    if found != 0 {
+        return found;
+    }
+    if h.version != needed {
+        return 19;
+    }
+    0
 }
 
 // The number that the bits from `end` to the end of the image's last byte spell.

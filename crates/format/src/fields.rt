@@ -1,7 +1,9 @@
 // The fields of an image, each where the format has it.
 ghost use mathlib.Core.Path.{_≡_};
+ghost use mathlib.Core.Bool.{cond};
+ghost use lib.Dec.{eqb};
 ghost use Prim.Native.Nat.{_+_, _*_, _^_, _<_, _≤_};
-ghost use Rattle.limits.specs.Meaning.Layout.{countBits, netBits, bitsFor, bytesFor};
+ghost use Rattle.limits.specs.Meaning.Layout.{countBits, netBits, netsEach, tailsFor, bitsFor, bytesFor};
 ghost use Rattle.format.specs.Meaning.Format.{countIn, cellAt, tailIn};
 ghost use Rattle.format.specs.Working.Scanning.{SpellsHeader, Narrow, SpellsCell};
 use limits::Image;
@@ -37,18 +39,46 @@ pub fn nets(h: Header) -> u16
     2 + h.inputs + h.latches + h.count
 }
 
+// How many nets a flip-flop has in an image of a version.
+pub fn nets_each(version: u16) -> usize
+    ensures { λ r. ⌜ r ≡ netsEach version ⌝ }
+{
+    if version == 2 {
+        return Image::LATCH_NETS;
+    }
+    1
+}
+
+// How many flip-flops have their enable and clear nets in the image.
+pub fn three_net_latches(h: Header) -> usize
+    ensures { λ r. ⌜ r ≡ cond (eqb (h .version) 2) (h .latches) 0 ⌝ }
+{
+    if h.version == 2 {
+        return h.latches as usize;
+    }
+    0
+}
+
+// How many nets stand behind the cells.
+pub fn tails(h: Header) -> usize
+    requires { ⌜ Narrow h ⌝ }
+    ensures { λ r. ⌜ (r ≡ tailsFor (h .version) (h .latches) (h .outputs)) × (r < 2 ^ netBits) ⌝ }
+{
+    nets_each(h.version) * h.latches as usize + h.outputs as usize
+}
+
 // How many bits the fields take.
 pub fn bits(h: Header) -> usize
     requires { ⌜ Narrow h ⌝ }
-    ensures { λ r. ⌜ (r ≡ bitsFor (h .count) (h .latches) (h .outputs)) × (r < 16384) ⌝ }
+    ensures { λ r. ⌜ (r ≡ bitsFor (h .version) (h .count) (h .latches) (h .outputs)) × (r < 16384) ⌝ }
 {
-    tail_at(h.count as usize, h.latches as usize + h.outputs as usize)
+    tail_at(h.count as usize, tails(h))
 }
 
 // How many bytes the image takes, the pad with it.
 pub fn bytes(h: Header) -> usize
     requires { ⌜ Narrow h ⌝ }
-    ensures { λ r. ⌜ (r ≡ bytesFor (h .count) (h .latches) (h .outputs)) × (r ≤ 2048) ⌝ }
+    ensures { λ r. ⌜ (r ≡ bytesFor (h .version) (h .count) (h .latches) (h .outputs)) × (r ≤ 2048) ⌝ }
 {
     (bits(h) + 7) / 8
 }

@@ -11,6 +11,7 @@ use Rattle.memory.specs.Meaning.Refusals.{Free}
 use Rattle.netlist.specs.Meaning.Loops.{Path}
 use Rattle.netlist.specs.Meaning.Faults.{DesignFault, Accepted}
 use Rattle.reader.specs.Meaning.Fields.{bitAt, fieldAt}
+use Rattle.format.specs.Meaning.Version.{plainTo}
 use Rattle.format.specs.Meaning.Format.{decoded, bitsOf, Encodes}
 use Rattle.format.specs.Meaning.Faults.{ImageFault}
 use Rattle.image.specs.Meaning.Reading.{emptyDesign}
@@ -35,11 +36,13 @@ empty-design n (DesignFault.cells l) = omega arith
 empty-design n (DesignFault.first i h l) = omega (arith, h)
 empty-design n (DesignFault.second i h l) = omega (arith, h)
 empty-design n (DesignFault.read k h l) = omega (arith, h)
+empty-design n (DesignFault.enable k h l) = omega (arith, h)
+empty-design n (DesignFault.clear k h l) = omega (arith, h)
 empty-design n (DesignFault.shown k h l) = omega (arith, h)
 empty-design n (DesignFault.loop i p) = no-loop p
 
 pub empty-encoded : Encodes emptyDesign emptyBytes
-unfolding fieldAt horner bitAt
+unfolding fieldAt horner bitAt plainTo
 empty-encoded = record {
   size = refl;
   version = refl;
@@ -50,7 +53,10 @@ empty-encoded = record {
   kinds = λ i h. absurd (omega (arith, h));
   firsts = λ i h. absurd (omega (arith, h));
   seconds = λ i h. absurd (omega (arith, h));
-  tails = λ t h. absurd (omega (arith, h));
+  reads = λ k h. absurd (omega (arith, h));
+  enables = λ k h. absurd (omega (arith, h));
+  clears = λ k h. absurd (omega (arith, h));
+  shows = λ k h. absurd (omega (arith, h));
   pad = λ i h p. pad i h p;
 }
   where

@@ -3,3 +3,5 @@ pub mod Accepted
 pub mod Determined
 pub mod Empty
 pub mod Long
+pub mod Taking
+pub mod VersionOne

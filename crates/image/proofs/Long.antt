@@ -11,10 +11,12 @@ use Rattle.numbers.proofs.Digits.{horner-cong}
 use Rattle.memory.specs.Meaning.Refusals.{Free, First}
 use Rattle.memory.specs.Working.Lowest.{Lowest}
 use Rattle.memory.proofs.Table.{first-of-lowest, lowest-of-first}
-use Rattle.limits.specs.Meaning.Layout.{mostBytes, sizeBits, countBits, kindBits, netBits, inputsAt, latchesAt, outputsAt, countAt}
-use Rattle.limits.proofs.Sizes.{bytes-le-most}
+use Rattle.limits.specs.Meaning.Limits.{mostLatches}
+use Rattle.limits.specs.Meaning.Layout.{mostBytes, sizeBits, countBits, kindBits, netBits, inputsAt, latchesAt, outputsAt, countAt, netsEach}
+use Rattle.limits.specs.Working.Tails.{mostTails}
+use Rattle.limits.proofs.Sizes.{latches-le, bytes-le-most}
 use Rattle.reader.specs.Meaning.Fields.{bitAt, fieldAt}
-use Rattle.format.specs.Meaning.Format.{versionIn, inputsIn, latchesIn, outputsIn, countIn, netsIn, bitsIn, bytesIn, cellAt, kindIn, firstIn, secondIn, tailIn}
+use Rattle.format.specs.Meaning.Format.{versionIn, inputsIn, latchesIn, outputsIn, countIn, netsIn, bitsIn, bytesIn, cellAt, kindIn, firstIn, secondIn, tailIn, latchIn, enableIn, clearIn, shownIn}
 use Rattle.format.specs.Meaning.Faults.{ImageFault, HeaderFault}
 use Rattle.format.specs.Working.Scanning.{WithinLimits}
 use Rattle.format.proofs.Refusals.{image-numbered, header-numbered}
@@ -29,12 +31,15 @@ pub front-back : {b c : List ℕ} → SameFront b c → SameFront c b
 front-back f = record { long-one = f .long-other; long-other = f .long-one; bits = λ i h. sym (f .bits i h) }
 
 fits : {b : List ℕ} → WithinLimits b → bytesIn b ≤ mostBytes
-fits {b} w = bytes-le-most (countIn b) (latchesIn b) (outputsIn b) (w .few-cells) (w .few-latches) (w .few-outputs)
+fits {b} w = bytes-le-most (versionIn b) (countIn b) (latchesIn b) (outputsIn b) (w .few-cells) (w .few-latches) (w .few-outputs)
 
 module _ {b c : List ℕ} (f : SameFront b c) where
   field : (at w : ℕ) → at + w ≤ 8 * mostBytes → fieldAt b at w ≡ fieldAt c at w
   unfolding fieldAt
   field at w h = horner-cong (λ j. bitAt b (at + j)) (λ j. bitAt c (at + j)) w (λ j l. f .bits (at + j) (omega arith))
+
+  version : versionIn b ≡ versionIn c
+  version = field 0 sizeBits (omega arith)
 
   inputs : inputsIn b ≡ inputsIn c
   inputs = field inputsAt sizeBits (omega arith)
@@ -52,7 +57,10 @@ module _ {b c : List ℕ} (f : SameFront b c) where
   nets = omega (arith, inputs, latches, count)
 
   pub same-bytes-in : bytesIn b ≡ bytesIn c
-  same-bytes-in = rw (count, latches, outputs)
+  same-bytes-in = rw (version, count, latches, outputs)
+
+  same-bits-in : bitsIn b ≡ bitsIn c
+  same-bits-in = rw (version, count, latches, outputs)
 
   pub limits-there : WithinLimits b → WithinLimits c
   limits-there w = record {
@@ -62,13 +70,29 @@ module _ {b c : List ℕ} (f : SameFront b c) where
     few-cells = rw (← count) (w .few-cells);
   }
 
-  tail-field : (t : ℕ) → WithinLimits b → t < latchesIn b + outputsIn b → tailIn b t ≡ tailIn c t
-  tail-field t w h = field (cellAt (countIn b) + netBits * t) netBits (omega (arith, w .few-cells, w .few-latches, w .few-outputs)) ∙ rw count
+  tail-field : (t : ℕ) → WithinLimits b → t < mostTails → tailIn b t ≡ tailIn c t
+  tail-field t w h = field (cellAt (countIn b) + netBits * t) netBits (omega (arith, w .few-cells)) ∙ rw count
+
+  latch-field : (k j : ℕ) → j < 3 → WithinLimits b → k < latchesIn b → latchIn b k j ≡ latchIn c k j
+  latch-field k j l w h =
+      let q : k ≤ 6 = omega (arith, w .few-latches) in
+      tail-field (netsEach (versionIn b) * k + j) w (omega (arith, latches-le (versionIn b) k 6 q)) ∙ rw version
+
+  enable-field : (k : ℕ) → WithinLimits b → k < latchesIn b → enableIn b k ≡ enableIn c k
+  enable-field k w h = rw (latch-field k 1 (omega arith) w h, version)
+
+  clear-field : (k : ℕ) → WithinLimits b → k < latchesIn b → clearIn b k ≡ clearIn c k
+  clear-field k w h = rw (latch-field k 2 (omega arith) w h, version)
+
+  shown-field : (k : ℕ) → WithinLimits b → k < outputsIn b → shownIn b k ≡ shownIn c k
+  shown-field k w h =
+      tail-field (netsEach (versionIn b) * latchesIn b + k) w (omega (arith, latches-le (versionIn b) (latchesIn b) mostLatches (w .few-latches), w .few-outputs))
+      ∙ rw (version, latches)
 
   -- the numbers up to 3 speak of the header alone, and the others up to 8 of what stands within the image
   there : {n : ℕ} → n ≤ 8 → (n ≤ 3) ⊎ WithinLimits b → ImageFault b n → ImageFault c n
   there h w (ImageFault.short l) = absurd (omega (arith, l, f .long-one))
-  there h w (ImageFault.version l) = ImageFault.version (λ e. l (field 0 sizeBits (omega arith) ∙ e))
+  there h w (ImageFault.version l m) = ImageFault.version (λ e. l (version ∙ e)) (λ e. m (version ∙ e))
   there h w (ImageFault.inputs l) = ImageFault.inputs (omega (arith, inputs))
   there h w (ImageFault.latches l) = ImageFault.latches (omega (arith, latches))
   there h w (ImageFault.outputs l) = ImageFault.outputs (omega (arith, outputs))
@@ -78,18 +102,21 @@ module _ {b c : List ℕ} (f : SameFront b c) where
       ⊎-elim (λ k. absurd (omega arith)) (λ x. ImageFault.first i (omega (arith, count)) (omega (arith, nets, l, field (cellAt i + kindBits) netBits (omega (arith, x .few-cells))))) w
   there h w (ImageFault.second i k l) =
       ⊎-elim (λ k. absurd (omega arith)) (λ x. ImageFault.second i (omega (arith, count)) (omega (arith, nets, l, field (cellAt i + kindBits + netBits) netBits (omega (arith, x .few-cells))))) w
-  there h w (ImageFault.tail t k l) =
-      ⊎-elim (λ k. absurd (omega arith)) (λ x. ImageFault.tail t (omega (arith, latches, outputs)) (omega (arith, nets, l, tail-field t x k))) w
+  there h w (ImageFault.read i k l) = ⊎-elim (λ k. absurd (omega arith)) (λ x. ImageFault.read i (omega (arith, latches)) (omega (arith, nets, l, latch-field i 0 (omega arith) x k))) w
+  there h w (ImageFault.enable i k l) = ⊎-elim (λ k. absurd (omega arith)) (λ x. ImageFault.enable i (omega (arith, latches)) (omega (arith, nets, l, enable-field i x k))) w
+  there h w (ImageFault.clear i k l) = ⊎-elim (λ k. absurd (omega arith)) (λ x. ImageFault.clear i (omega (arith, latches)) (omega (arith, nets, l, clear-field i x k))) w
+  there h w (ImageFault.shown i k l) = ⊎-elim (λ k. absurd (omega arith)) (λ x. ImageFault.shown i (omega (arith, outputs)) (omega (arith, nets, l, shown-field i x k))) w
   there h w (ImageFault.unread i k o l) =
       ⊎-elim (λ k. absurd (omega arith))
       (λ x. ImageFault.unread i (omega (arith, count)) (omega (arith, o, field (cellAt i) kindBits (omega (arith, x .few-cells)))) (λ e. l (field (cellAt i + kindBits + netBits) netBits (omega (arith, x .few-cells)) ∙ e)))
       w
   there h w (ImageFault.pad i k o l) =
       ⊎-elim (λ k. absurd (omega arith))
-      (λ x. ImageFault.pad i (omega (arith, k, count, latches, outputs)) (omega (arith, o, same-bytes-in)) (λ e. l (f .bits i (omega (arith, o, fits x)) ∙ e)))
+      (λ x. ImageFault.pad i (omega (arith, k, same-bits-in)) (omega (arith, o, same-bytes-in)) (λ e. l (f .bits i (omega (arith, o, fits x)) ∙ e)))
       w
   there h w (ImageFault.over l) = ⊎-elim (λ k. absurd (omega arith)) (λ x. ImageFault.over (omega (arith, fits x, same-bytes-in, f .long-other))) w
   there h w (ImageFault.loop i p) = absurd (omega arith)
+  there h w (ImageFault.needless v p) = absurd (omega arith)
 
 module _ {b c : List ℕ} (f : SameFront b c) where
   -- where no number up to 3 applies the sizes are within the limits

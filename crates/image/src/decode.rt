@@ -1,15 +1,16 @@
 // The design that an image spells.
 ghost use mathlib.Core.Path.{_≡_};
-ghost use Prim.Native.Nat.{_+_, _^_, _<_, _≤_};
+ghost use Prim.Native.Nat.{_+_, _*_, _^_, _<_, _≤_};
 ghost use lib.ListN.{length};
-ghost use Rattle.memory.specs.Meaning.Slices.{Zero};
 ghost use Rattle.memory.specs.Working.Filling.{Filled};
-ghost use Rattle.limits.specs.Meaning.Limits.{mostCells};
-ghost use Rattle.limits.specs.Meaning.Layout.{countBits, kindBits, netBits};
+ghost use Rattle.limits.specs.Meaning.Limits.{mostOutputs, mostCells};
+ghost use Rattle.limits.specs.Meaning.Layout.{countBits, kindBits, netsEach};
+ghost use Rattle.limits.specs.Working.Tails.{mostTails};
 ghost use Rattle.netlist.specs.Meaning.Gates.{gateOf, blankCell};
 ghost use Rattle.format.specs.Meaning.Format.{countIn, gateIn, cellIn, tailIn, decoded};
 ghost use Rattle.image.specs.Meaning.Reading.{emptyDesign};
 ghost use Rattle.format.specs.Working.Scanning.{SpellsHeader, WithinLimits};
+ghost use Rattle.image.specs.Working.Taking.{Takes};
 use format::fields;
 use format::fields::Header;
 use limits::Image;
@@ -25,10 +26,16 @@ pub(crate) fn decode(image: &[u8], h: Header) -> Design
     let latches = h.latches as usize;
     let outputs = h.outputs as usize;
     let cells = cells_of(image, count);
+    let each = fields::nets_each(h.version);
     let mut data = [0u16; Image::MOST_LATCHES];
-    take_nets(image, count, 0, latches, &mut data);
+    take_nets(image, count, 0, each, latches, &mut data);
+    let controlled = fields::three_net_latches(h);
+    let mut enable = [1u16; Image::MOST_LATCHES];
+    take_nets(image, count, 1, Image::LATCH_NETS, controlled, &mut enable);
+    let mut clear = [0u16; Image::MOST_LATCHES];
+    take_nets(image, count, 2, Image::LATCH_NETS, controlled, &mut clear);
     let mut shown = [0u16; Image::MOST_OUTPUTS];
-    take_nets(image, count, latches, outputs, &mut shown);
+    take_nets(image, count, each * latches, 1, outputs, &mut shown);
     Design {
         inputs: h.inputs as u8,
         latches: h.latches as u8,
@@ -36,6 +43,8 @@ pub(crate) fn decode(image: &[u8], h: Header) -> Design
         count: h.count,
         cells,
         data,
+        enable,
+        clear,
         shown,
     }
 }
@@ -50,6 +59,8 @@ pub(crate) fn empty() -> Design
         count: 0,
         cells: [Cell { gate: Gate::Buf(0) }; Image::MOST_CELLS],
         data: [0u16; Image::MOST_LATCHES],
+        enable: [1u16; Image::MOST_LATCHES],
+        clear: [0u16; Image::MOST_LATCHES],
         shown: [0u16; Image::MOST_OUTPUTS],
     }
 }
@@ -107,14 +118,14 @@ fn two_nets(kind: u16, a: u16, b: u16) -> Gate
     }
 }
 
-// Puts n nets behind the cells, of which there are `count`, from net t on, into a list of zeros.
-fn take_nets(image: &[u8], count: usize, t: usize, n: usize, nets: &mut [u16])
-    requires { ⌜ ((count ≡ countIn (now image)) × (count < 2 ^ countBits)) × ((t + n < 2 ^ netBits) × ((n ≤ length (now nets)) × (Zero (now nets)))) ⌝ }
-    ensures { λ _. ⌜ Filled (λ k. tailIn (now (image .entry)) (t + k)) 0 (length (now (nets .entry))) n (now (nets .exit)) ⌝ }
+// Puts n nets behind the cells, of which there are `count`, at the front of a list: net t, and then each that stands `step` further.
+fn take_nets(image: &[u8], count: usize, t: usize, step: usize, n: usize, nets: &mut [u16])
+    requires { ⌜ ((count ≡ countIn (now image)) × (count < 2 ^ countBits)) × ((t ≤ mostTails) × ((step ≤ netsEach 2) × ((n ≤ mostOutputs) × (n ≤ length (now nets))))) ⌝ }
+    ensures { λ _. ⌜ Takes (λ k. tailIn (now (image .entry)) (step * k + t)) n (now (nets .entry)) (now (nets .exit)) ⌝ }
 {
     let mut k = 0;
     while k < n {
-        nets[k] = fields::tail(image, count, t + k);
+        nets[k] = fields::tail(image, count, step * k + t);
         k += 1;
     }
 }

@@ -5,6 +5,7 @@ ghost use mathlib.Core.Path.{_≡_};
 ghost use Rattle.image.specs.Meaning.Reading.{Measures, ReadsImage, emptyDesign};
 use format::faults;
 use format::fields;
+use format::version;
 use netlist::Design;
 
 pub enum Length {
@@ -45,7 +46,8 @@ pub fn read(image: &[u8]) -> Reading
         return refusal(number);
     }
     let design = decode::decode(image, h);
-    let number = faults::field_fault(image, h, order::fault_of(design));
+    let found = order::fault_of(design);
+    let number = faults::field_fault(image, h, found, version::version_of(design));
     if number != 0 {
         return refusal(number);
     }

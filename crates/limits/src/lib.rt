@@ -28,9 +28,14 @@ impl Image {
 
     pub const CELL_BITS: usize = Image::KIND_BITS + Image::NET_BITS + Image::NET_BITS;
 
+    // Nets of a flip-flop in version 2: data, enable and clear. Version 1 has the data alone.
+    pub const LATCH_NETS: usize = 3;
+
+    pub const MOST_TAILS: usize = Image::LATCH_NETS * Image::MOST_LATCHES + Image::MOST_OUTPUTS;
+
     pub const MOST_BYTES: usize = (Image::HEADER_BITS
         + Image::CELL_BITS * Image::MOST_CELLS
-        + Image::NET_BITS * (Image::MOST_LATCHES + Image::MOST_OUTPUTS)
+        + Image::NET_BITS * Image::MOST_TAILS
         + 7)
         / 8;
 

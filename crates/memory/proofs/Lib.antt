@@ -1,5 +1,6 @@
 pub mod Orders
 pub mod Table
+pub mod Places
 pub mod Refusals
 pub mod Slices
 pub mod Filling

@@ -8,7 +8,7 @@ use borrow.Author.Count.{below-more}
 use Rattle.memory.specs.Meaning.Refusals.{Free, First, FirstOrNone, earlierNumber, Reply, answer, refusal, Keeps}
 use Rattle.memory.specs.Working.Lowest.{Numbered, Lowest}
 use Rattle.memory.proofs.Orders.{first-unique, first-map, first-earlier}
-use Rattle.memory.proofs.Table.{first-numbered, first-of-lowest, lowest-of-first}
+use Rattle.memory.proofs.Table.{first-numbered, numbered-of, first-of-lowest, lowest-of-first}
 
 -- no number below k applies
 abbrev pub Clean : (ℕ → Type 0) → ℕ → Type 0
@@ -88,7 +88,7 @@ module _ (P Q R : ℕ → Type 0) (one : (n : ℕ) → P n → R n) (two : (n : 
   -- P is looked for first, and every number of Q is higher
   pub first-lower : Numbered R → {n : ℕ} → First P n → ((m : ℕ) → Q m → n ≤ m) → First R n
   first-lower numbered {n} f above =
-      let l = lowest-of-first (λ m p. numbered m (one m p)) f in
+      let l = lowest-of-first (numbered-of one numbered) f in
       first-of-lowest numbered (record { applies = one n (l .applies); lower = λ m h r. ⊎-elim (λ p. l .lower m h p) (λ q. omega (arith, above m q)) (either m r) })
 
   -- nothing has P, so a reply that is right of Q is right
@@ -107,7 +107,7 @@ module _ (P Q R : ℕ → Type 0) (one : (n : ℕ) → P n → R n) (two : (n : 
 module _ (P R : ℕ → Type 0) (k : ℕ) (numbered : Numbered R) (one : (n : ℕ) → P n → R n) (early : (n : ℕ) → R n → n < k → P n) where
   pub first-early : {n : ℕ} → n < k → First P n → First R n
   first-early {n} h f =
-      let l = lowest-of-first (λ m p. numbered m (one m p)) f in
+      let l = lowest-of-first (numbered-of one numbered) f in
       first-of-lowest numbered (record { applies = one n (l .applies); lower = λ m q r. l .lower m q (early m r (omega arith)) })
 
   pub first-late : Free P → R k → First R k

@@ -1,88 +1,103 @@
--- Document 01's order: of the numbers 1 to 16 the first that applies is the lowest that does.
-use Prim.Native.Nat.{ℕ, zero, suc, _<_, _≤_, min}
-use mathlib.Core.Path.{_≡_, refl, sym, _∙_, subst}
-use mathlib.Core.Logic.{⊎-elim}
-use mathlib.Core.Bool.{Bool, true, false, _&&_, _||_}
+-- The order: of numbers that rise in it the first that applies is the lowest that does.
+use Prim.Native.Nat.{ℕ, _<_}
+use mathlib.Core.Path.{sym, subst}
+use mathlib.Core.Logic.{_⊎_, ⊎-elim}
+use mathlib.Core.Bool.{Bool, true, false, cond, _&&_}
 use mathlib.Core.List.{List, [], _∷_}
 use native.Mathlib.Omega.{arith}
-use native.Mathlib.Decide.{ℕ-discrete}
-use lib.Dec.{T, ltb, leb, eqb, ltb→lt, leb→le, eqb→eq}
-use Rattle.memory.specs.Meaning.Orders.{NoneBefore, tableOrder, earlier}
-use Rattle.memory.specs.Meaning.Refusals.{Free, First, earlierNumber, Reply, answer, refusal, Right, Keeps}
-use Rattle.memory.specs.Working.Lowest.{Numbered, Lowest}
+use lib.Dec.{T, ltb, leb, eqb, ltb→lt, eqb→eq, lt→ltb, le→leb}
+use Rattle.memory.specs.Meaning.Orders.{NoneBefore, tableOrder}
+use Rattle.memory.specs.Meaning.Refusals.{Free, First, Reply, answer, refusal, Right, Keeps}
+use Rattle.memory.specs.Working.Lowest.{below, rising, listed, Numbered, UpTo16, Lowest}
 use Rattle.memory.proofs.Computed.{every, every-at, and-left, and-right, or-split}
-use Rattle.memory.proofs.Orders.{Stands, first-stands, earlier-left, earlier-right, earlier-behind}
+use Rattle.memory.proofs.Orders.{Stands, first-stands}
 
--- tests that compute on an order: which numbers stand in it, that those up to 16 rise, and that all of them are 1 to 16
-abbrev listed : ℕ → List ℕ → Bool
-listed n [] = false
-listed n (k ∷ ks) = eqb k n || listed n ks
-
-abbrev below : ℕ → List ℕ → Bool
-below j [] = true
-below j (k ∷ ks) = (ltb 16 j || (ltb 16 k || ltb j k)) && below j ks
-
-abbrev rising : List ℕ → Bool
-rising [] = true
-rising (k ∷ ks) = below k ks && rising ks
-
-abbrev among : List ℕ → Bool
-among [] = true
-among (k ∷ ks) = (ltb 0 k && leb k 16) && among ks
+-- a test that computes on the order: no number is 0
+abbrev above-0 : List ℕ → Bool
+above-0 [] = true
+above-0 (k ∷ ks) = ltb 0 k && above-0 ks
 
 listed-stands : (n : ℕ) (ks : List ℕ) → T (listed n ks) → Stands ks n
 listed-stands n [] t = absurd t
 listed-stands n (k ∷ ks) t = ⊎-elim (λ e. subst (λ (j : ℕ). Stands (j ∷ ks) n) (sym (eqb→eq k n e)) Stands.first) (λ s. Stands.behind (listed-stands n ks s)) (or-split (eqb k n) (listed n ks) t)
 
-below-at : (j : ℕ) {ks : List ℕ} {k : ℕ} → T (below j ks) → Stands ks k → j ≤ 16 → k ≤ 16 → j < k
-below-at j {ks = k ∷ ks} t Stands.first h l =
-    ⊎-elim (λ x. absurd (omega (arith, ltb→lt 16 j x))) (λ y. ⊎-elim (λ x. absurd (omega (arith, ltb→lt 16 k x))) (λ x. ltb→lt j k x) (or-split (ltb 16 k) (ltb j k) y))
-    (or-split (ltb 16 j) (ltb 16 k || ltb j k) (and-left (ltb 16 j || (ltb 16 k || ltb j k)) (below j ks) t))
-below-at j {ks = k ∷ ks} t (Stands.behind s) h l = below-at j (and-right (ltb 16 j || (ltb 16 k || ltb j k)) (below j ks) t) s h l
+-- a test that is asked of those alone that have passed two others
+asked : (a b c : Bool) → T (cond a (cond b c true) true) → T a → T b → T c
+asked true true c t p q = t
+asked true false c t p q = absurd q
+asked false b c t p q = absurd p
 
-among-at : {ks : List ℕ} {n : ℕ} → T (among ks) → Stands ks n → (0 < n) × (n ≤ 16)
-among-at {ks = k ∷ ks} t Stands.first =
-    let h = and-left (ltb 0 k && leb k 16) (among ks) t in
-    (ltb→lt 0 k (and-left (ltb 0 k) (leb k 16) h), leb→le k 16 (and-right (ltb 0 k) (leb k 16) h))
-among-at {ks = k ∷ ks} t (Stands.behind s) = among-at (and-right (ltb 0 k && leb k 16) (among ks) t) s
+below-at : (f : ℕ → Bool) (j : ℕ) {ks : List ℕ} {k : ℕ} → T (below f j ks) → Stands ks k → T (f j) → T (f k) → j < k
+below-at f j {ks = k ∷ ks} t Stands.first p q =
+    ltb→lt j k (asked (f j) (f k) (ltb j k) (and-left (cond (f j) (cond (f k) (ltb j k) true) true) (below f j ks) t) p q)
+below-at f j {ks = k ∷ ks} t (Stands.behind s) p q = below-at f j (and-right (cond (f j) (cond (f k) (ltb j k) true) true) (below f j ks) t) s p q
 
--- what is lowest is first, and what is first is lowest, in any order in which the numbers up to 16 rise
-module _ {P : ℕ → Type 0} (numbered : Numbered P) where
-  lowest-none-before : {n : ℕ} {ks : List ℕ} → T (rising ks) → Stands ks n → n ≤ 16 → ((m : ℕ) → m < n → P m → ⊥) → NoneBefore P ks n
+-- what is lowest is first, and what is first is lowest, in any order in which the numbers that apply rise
+module _ {P : ℕ → Type 0} (f : ℕ → Bool) (each : (n : ℕ) → P n → T (f n)) where
+  lowest-none-before : {n : ℕ} {ks : List ℕ} → T (rising f ks) → Stands ks n → T (f n) → ((m : ℕ) → m < n → P m → ⊥) → NoneBefore P ks n
   lowest-none-before t Stands.first h lower = NoneBefore.here
   lowest-none-before {ks = k ∷ ks} t (Stands.behind s) h lower =
-      NoneBefore.later (λ p. lower k (below-at k (and-left (below k ks) (rising ks) t) s (numbered k p .1) h) p)
-      (lowest-none-before (and-right (below k ks) (rising ks) t) s h lower)
+      NoneBefore.later (λ p. lower k (below-at f k (and-left (below f k ks) (rising f ks) t) s (each k p) h) p)
+      (lowest-none-before (and-right (below f k ks) (rising f ks) t) s h lower)
 
-  none-before-lower : {n m : ℕ} {ks : List ℕ} → T (rising ks) → NoneBefore P ks n → Stands ks m → n ≤ 16 → m < n → P m → ⊥
+  none-before-lower : {n m : ℕ} {ks : List ℕ} → T (rising f ks) → NoneBefore P ks n → Stands ks m → T (f n) → m < n → P m → ⊥
   none-before-lower t NoneBefore.here Stands.first h l p = omega arith
-  none-before-lower {ks = n ∷ ks} t NoneBefore.here (Stands.behind s) h l p = omega (arith, below-at n (and-left (below n ks) (rising ks) t) s h (numbered _ p .1))
-  none-before-lower t (NoneBefore.later a f) Stands.first h l p = a p
-  none-before-lower {ks = k ∷ ks} t (NoneBefore.later a f) (Stands.behind s) h l p = none-before-lower (and-right (below k ks) (rising ks) t) f s h l p
+  none-before-lower {ks = n ∷ ks} t NoneBefore.here (Stands.behind s) h l p = omega (arith, below-at f n (and-left (below f n ks) (rising f ks) t) s h (each _ p))
+  none-before-lower t (NoneBefore.later a g) Stands.first h l p = a p
+  none-before-lower {ks = k ∷ ks} t (NoneBefore.later a g) (Stands.behind s) h l p = none-before-lower (and-right (below f k ks) (rising f ks) t) g s h l p
 
--- the numbers of the order are 1 to 16
-pub stands-table : {n : ℕ} → Stands tableOrder n → (0 < n) × (n ≤ 16)
-stands-table s = among-at tt s
+-- numbers that pass a test, all of them below a bound, rise in the order if the test says so
+pub numbered-by : {P : ℕ → Type 0} (f : ℕ → Bool) (n : ℕ) → T (rising f tableOrder) → T (every (λ i. cond (f i) (listed i tableOrder) true) n)
+    → ((m : ℕ) → P m → T (f m)) → ((m : ℕ) → P m → m < n) → Numbered P
+numbered-by f n rises all each few = record {
+  among = f;
+  rises = rises;
+  each = each;
+  stands = λ m p. go (f m) (listed m tableOrder) (every-at (λ i. cond (f i) (listed i tableOrder) true) n m all (few m p)) (each m p);
+}
+  where
+    go : (a b : Bool) → T (cond a b true) → T a → T b
+    go true b t p = t
+    go false b t p = absurd p
 
-pub table-stands : (n : ℕ) → 0 < n → n ≤ 16 → Stands tableOrder n
-table-stands zero h l = absurd (omega arith)
-table-stands (suc n) h l = listed-stands (suc n) tableOrder (every-at (λ i. listed (suc i) tableOrder) 16 n tt (omega arith))
+both : (a b : Bool) → T a → T b → T (a && b)
+both true b p q = q
+both false b p q = absurd p
+
+-- the numbers 1 to 16
+to-16 : ℕ → Bool
+to-16 n = ltb 0 n && leb n 16
+
+pub up-to-16 : {P : ℕ → Type 0} → UpTo16 P → Numbered P
+unfolding to-16
+up-to-16 h = numbered-by to-16 17 tt tt (λ n p. both (ltb 0 n) (leb n 16) (lt→ltb 0 n (h n p .0)) (le→leb n 16 (h n p .1))) (λ n p. omega (arith, h n p .1))
+
+-- fewer conditions, fewer numbers
+pub numbered-of : {P R : ℕ → Type 0} → ((n : ℕ) → P n → R n) → Numbered R → Numbered P
+numbered-of one r = record { among = r .among; rises = r .rises; each = λ n p. r .each n (one n p); stands = λ n p. r .stands n (one n p) }
 
 -- no call is refused by 0, or by a number that is not in the order
-pub first-numbered : {P : ℕ → Type 0} {n : ℕ} → First P n → (0 < n) × (n ≤ 16)
-first-numbered f = stands-table (first-stands f)
+positive : {ks : List ℕ} {n : ℕ} → T (above-0 ks) → Stands ks n → 0 < n
+positive {ks = k ∷ ks} t Stands.first = ltb→lt 0 k (and-left (ltb 0 k) (above-0 ks) t)
+positive {ks = k ∷ ks} t (Stands.behind s) = positive (and-right (ltb 0 k) (above-0 ks) t) s
+
+pub first-numbered : {P : ℕ → Type 0} {n : ℕ} → First P n → (0 < n) × Stands tableOrder n
+first-numbered f = (positive tt (first-stands f), first-stands f)
 
 -- "The lowest applicable number is returned": first is lowest, and lowest first
 module _ {P : ℕ → Type 0} (numbered : Numbered P) where
   pub first-of-lowest : {n : ℕ} → Lowest P n → First P n
-  first-of-lowest {n} l =
-      let h = numbered n (l .applies) in
-      record { applies = l .applies; first = lowest-none-before numbered tt (table-stands n (h .0) (h .1)) (h .1) (l .lower) }
+  first-of-lowest {n} l = record {
+    applies = l .applies;
+    first =
+        lowest-none-before (numbered .among) (numbered .each) (numbered .rises) (listed-stands n tableOrder (numbered .stands n (l .applies)))
+        (numbered .each n (l .applies)) (l .lower);
+  }
 
   pub lowest-of-first : {n : ℕ} → First P n → Lowest P n
   lowest-of-first {n} f = record {
     applies = f .applies;
-    lower = λ m l p. let h = numbered m p in none-before-lower numbered tt (f .first) (table-stands m (h .0) (h .1)) (numbered n (f .applies) .1) l p;
+    lower = λ m l p. none-before-lower (numbered .among) (numbered .each) (numbered .rises) (f .first) (listed-stands m tableOrder (numbered .stands m p)) (numbered .each n (f .applies)) l p;
   }
 
   -- and so a promise over the one is a promise over the other
@@ -94,36 +109,3 @@ module _ {P : ℕ → Type 0} (numbered : Numbered P) where
     pub lowest-of-keeps : (r : Reply A) → Keeps P Answers Cleared r → Right (Free P) (Lowest P) Answers Cleared r
     lowest-of-keeps (answer a) p = p
     lowest-of-keeps (refusal n) p = (lowest-of-first (p .0), p .1)
-
--- and the earlier of two numbers is the lower
-from : ℕ → ℕ → List ℕ
-from k zero = []
-from k (suc i) = k ∷ from (suc k) i
-
-earlier-from : (i k a b : ℕ) → k ≤ a → k ≤ b → earlier (from k i) a b ≡ min a b
-unfolding from earlier
-earlier-from zero k a b h l = refl
-earlier-from (suc i) k a b h l = go (ℕ-discrete k a) (ℕ-discrete k b) (λ x y. earlier-from i (suc k) a b x y)
-  where
-    go : Dec (k ≡ a) → Dec (k ≡ b) → (suc k ≤ a → suc k ≤ b → earlier (from (suc k) i) a b ≡ min a b) → earlier (k ∷ from (suc k) i) a b ≡ min a b
-    go (yes e) t next = earlier-left k (from (suc k) i) a b e ∙ omega arith
-    go (no n) (yes e) next = earlier-right k (from (suc k) i) a b n e ∙ omega arith
-    go (no n) (no m) next = earlier-behind k (from (suc k) i) a b n m ∙ next (omega arith) (omega arith)
-
-pub earlier-lower : (a b : ℕ) → (a ≡ 0 → ⊥) → (b ≡ 0 → ⊥) → earlierNumber a b ≡ min a b
-unfolding from earlierNumber
-earlier-lower zero b z w = absurd (z refl)
-earlier-lower (suc a) zero z w = absurd (w refl)
-earlier-lower (suc a) (suc b) z w = earlier-from 16 1 (suc a) (suc b) (omega arith) (omega arith)
-
--- 0 is none
-pub earlier-none : (a b : ℕ) → b ≡ 0 → earlierNumber a b ≡ a
-unfolding earlierNumber
-earlier-none zero b z = z
-earlier-none (suc a) zero z = refl
-earlier-none (suc a) (suc b) z = absurd (omega arith)
-
-pub none-earlier : (a b : ℕ) → a ≡ 0 → earlierNumber a b ≡ b
-unfolding earlierNumber
-none-earlier zero b z = refl
-none-earlier (suc a) b z = absurd (omega arith)

@@ -1,9 +1,11 @@
 // Slices that a caller lends, and the numbers by which a call is turned away.
 ghost use mathlib.Core.Path.{_≡_};
-ghost use Prim.Native.Nat.{min};
+ghost use Prim.Native.Nat.{_<_, min};
 ghost use lib.ListN.{length};
 ghost use Rattle.memory.specs.Meaning.Slices.{Cleared};
+ghost use Rattle.memory.specs.Meaning.Orders.{tableOrder};
 ghost use Rattle.memory.specs.Meaning.Refusals.{earlierNumber};
+ghost use Rattle.memory.specs.Working.Lowest.{placeIn};
 
 // Every byte becomes 0.
 pub fn clear_bytes(bytes: &mut [u8])
@@ -46,7 +48,7 @@ pub fn shorter(one: usize, other: usize) -> usize
     other
 }
 
-// Of two numbers of refusals, of which 0 is none, the one that comes first: in document 01's order the lower.
+// Of two numbers of refusals, of which 0 is none, the one that comes first in the order.
 pub fn earlier_number(a: u8, b: u8) -> u8
     ensures { λ r. ⌜ r ≡ earlierNumber a b ⌝ }
 {
@@ -56,8 +58,25 @@ pub fn earlier_number(a: u8, b: u8) -> u8
     if b == 0 {
         return a;
     }
-    if a < b {
-        return a;
+    if place(b) < place(a) {
+        return b;
     }
-    b
+    a
+}
+
+// Where a number stands in the order of refusals: 19 comes between 9 and 10, and a number without a place behind all that have one.
+fn place(number: u8) -> usize
+    requires { ⌜ 0 < number ⌝ }
+    ensures { λ r. ⌜ r ≡ placeIn tableOrder number ⌝ }
+{
+    if number == 19 {
+        return 9;
+    }
+    if number > 16 {
+        return 17 + number as usize;
+    }
+    if number > 9 {
+        return number as usize;
+    }
+    number as usize - 1
 }

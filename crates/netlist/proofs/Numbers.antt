@@ -2,14 +2,16 @@
 use Prim.Native.Nat.{ℕ, _<_, _≤_}
 use mathlib.Core.Path.{_≡_, refl}
 use mathlib.Core.Bool.{Bool, true, false}
+use mathlib.Core.List.{List}
 use native.Mathlib.Omega.{arith}
 use native.Mathlib.Decide.{decLt}
 use lib.ListN.{getD}
 use Rattle.numbers.proofs.Order.{not-lt, le-of-not-lt, lt-of-not-le}
 use Rattle.memory.specs.Working.Tests.{Tells, Splits}
 use Rattle.memory.specs.Meaning.Refusals.{FirstOrNone}
-use Rattle.memory.specs.Working.Lowest.{Numbered}
+use Rattle.memory.specs.Working.Lowest.{Numbered, UpTo16}
 use Rattle.memory.proofs.Refusals.{lowest-number}
+use Rattle.memory.proofs.Table.{up-to-16}
 use Rattle.netlist.specs.declared.Design.{Design}
 use Rattle.netlist.specs.Meaning.Gates.{firstOf, secondOf}
 use Rattle.netlist.specs.Meaning.Nets.{netsOf, gateAt}
@@ -31,6 +33,8 @@ kind (DesignFault.cells l) = three refl (DesignFault.cells l)
 kind (DesignFault.first i h l) = five refl (DesignFault.first i h l)
 kind (DesignFault.second i h l) = five refl (DesignFault.second i h l)
 kind (DesignFault.read k h l) = five refl (DesignFault.read k h l)
+kind (DesignFault.enable k h l) = five refl (DesignFault.enable k h l)
+kind (DesignFault.clear k h l) = five refl (DesignFault.clear k h l)
 kind (DesignFault.shown k h l) = five refl (DesignFault.shown k h l)
 kind (DesignFault.loop i p) = nine refl i p
 
@@ -42,8 +46,11 @@ fault-bounds {d} {m} f = go (kind f)
     go (five e g) = (omega arith, omega arith)
     go (nine e i p) = (omega arith, omega arith)
 
+pub design-among : {d : Design} → UpTo16 (DesignFault d)
+design-among m f = (omega (arith, fault-bounds f .0), omega (arith, fault-bounds f .1))
+
 pub design-numbered : {d : Design} → Numbered (DesignFault d)
-design-numbered m f = (omega (arith, fault-bounds f .0), omega (arith, fault-bounds f .1))
+design-numbered = up-to-16 design-among
 
 -- no loop, and neither 3 nor 5
 pub accepted-of : {d : Design} → (DesignFault d 3 → ⊥) → (DesignFault d 5 → ⊥) → ((i : ℕ) → OnLoop d i → ⊥) → Accepted d
@@ -90,6 +97,8 @@ sound w n = record {
   firsts = λ i h. lt-of-not-le (λ l. n (DesignFault.first i h l));
   seconds = λ i h. lt-of-not-le (λ l. n (DesignFault.second i h l));
   reads = λ k h. lt-of-not-le (λ l. n (DesignFault.read k h l));
+  enables = λ k h. lt-of-not-le (λ l. n (DesignFault.enable k h l));
+  clears = λ k h. lt-of-not-le (λ l. n (DesignFault.clear k h l));
   shows = λ k h. lt-of-not-le (λ l. n (DesignFault.shown k h l));
 }
 
@@ -106,18 +115,24 @@ not-3 w (DesignFault.latches l) = omega (arith, w .few-latches, l)
 not-3 w (DesignFault.outputs l) = omega (arith, w .few-outputs, l)
 not-3 w (DesignFault.cells l) = omega (arith, w .few-cells, l)
 
-pub not-5 : {d : Design} → ((i : ℕ) → i < d .count → NetsBelow d (netsOf d) i) → ((k : ℕ) → k < d .latches → getD (d .«data») k 0 < netsOf d)
-    → ((k : ℕ) → k < d .outputs → getD (d .shown) k 0 < netsOf d) → DesignFault d 5 → ⊥
-not-5 p q r (DesignFault.first i h l) = not-lt l (p i h .one)
-not-5 p q r (DesignFault.second i h l) = not-lt l (p i h .two)
-not-5 p q r (DesignFault.read k h l) = not-lt l (q k h)
-not-5 p q r (DesignFault.shown k h l) = not-lt l (r k h)
+-- the first n nets of a list are in range
+abbrev pub Below : Design → List ℕ → ℕ → Type 0
+Below d l n = (k : ℕ) → k < n → getD l k 0 < netsOf d
+
+pub not-5 : {d : Design} → ((i : ℕ) → i < d .count → NetsBelow d (netsOf d) i) → Below d (d .«data») (d .latches) → Below d (d .enable) (d .latches)
+    → Below d (d .clear) (d .latches) → Below d (d .shown) (d .outputs) → DesignFault d 5 → ⊥
+not-5 p x y z r (DesignFault.first i h l) = not-lt l (p i h .one)
+not-5 p x y z r (DesignFault.second i h l) = not-lt l (p i h .two)
+not-5 p x y z r (DesignFault.read k h l) = not-lt l (x k h)
+not-5 p x y z r (DesignFault.enable k h l) = not-lt l (y k h)
+not-5 p x y z r (DesignFault.clear k h l) = not-lt l (z k h)
+not-5 p x y z r (DesignFault.shown k h l) = not-lt l (r k h)
 
 pub sound-not-3 : {d : Design} → Sound d → DesignFault d 3 → ⊥
 sound-not-3 w = not-3 (record { few-inputs = w .few-inputs; few-latches = w .few-latches; few-outputs = w .few-outputs; few-cells = w .few-cells })
 
 pub sound-not-5 : {d : Design} → Sound d → DesignFault d 5 → ⊥
-sound-not-5 w = not-5 (λ i h. record { one = w .firsts i h; two = w .seconds i h }) (w .reads) (w .shows)
+sound-not-5 w = not-5 (λ i h. record { one = w .firsts i h; two = w .seconds i h }) (w .reads) (w .enables) (w .clears) (w .shows)
 
 -- what a search of the nets finds
 pub over-cell : {d : Design} (i : ℕ) → i < d .count → (NetsBelow d (netsOf d) i → ⊥) → DesignFault d 5
@@ -128,7 +143,7 @@ over-cell {d} i h n = go (decLt (firstOf (gateAt d i)) (netsOf d)) (decLt (secon
     go (yes p) (no q) = DesignFault.second i h (omega arith)
     go (no p) t = DesignFault.first i h (omega arith)
 
-pub over-shown : {d : Design} (t : Bool) → ((i : ℕ) → i < d .count → NetsBelow d (netsOf d) i) → ((k : ℕ) → k < d .latches → getD (d .«data») k 0 < netsOf d)
-    → Splits t ((k : ℕ) × (k < d .outputs) × (netsOf d ≤ getD (d .shown) k 0)) ((k : ℕ) → k < d .outputs → getD (d .shown) k 0 < netsOf d) → Tells t (DesignFault d 5)
-over-shown true p q f = DesignFault.shown (f .0) (f .1) (f .2)
-over-shown false p q f = not-5 p q f
+pub over-shown : {d : Design} (t : Bool) → ((i : ℕ) → i < d .count → NetsBelow d (netsOf d) i) → Below d (d .«data») (d .latches) → Below d (d .enable) (d .latches)
+    → Below d (d .clear) (d .latches) → Splits t ((k : ℕ) × (k < d .outputs) × (netsOf d ≤ getD (d .shown) k 0)) (Below d (d .shown) (d .outputs)) → Tells t (DesignFault d 5)
+over-shown true p x y z f = DesignFault.shown (f .0) (f .1) (f .2)
+over-shown false p x y z f = not-5 p x y z f

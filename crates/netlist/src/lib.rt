@@ -20,8 +20,9 @@ pub struct Cell {
     pub gate: Gate,
 }
 
-// Nets 0 and 1 are the constants; then come the inputs, the flip-flops and the cells in order. A flip-flop takes the value of its
-// data net at the clock, and an output shows the value of its net.
+// Nets 0 and 1 are the constants; then come the inputs, the flip-flops and the cells in order. At the clock a flip-flop becomes 0
+// where the value of its clear net is 1, else takes that of its data net where that of its enable net is 1, else holds its bit. An
+// output shows the value of its net.
 pub struct Design {
     pub inputs: u8,
     pub latches: u8,
@@ -29,6 +30,8 @@ pub struct Design {
     pub count: u16,
     pub cells: [Cell; Image::MOST_CELLS],
     pub data: [u16; Image::MOST_LATCHES],
+    pub enable: [u16; Image::MOST_LATCHES],
+    pub clear: [u16; Image::MOST_LATCHES],
     pub shown: [u16; Image::MOST_OUTPUTS],
 }
 

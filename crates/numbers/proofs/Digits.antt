@@ -1,6 +1,7 @@
 -- Bits and the numbers that they spell.
 use Prim.Native.Nat.{ℕ, zero, suc, _+_, _-_, _*_, _/_, _%_, _^_, _<_}
 use mathlib.Core.Path.{_≡_, refl, sym}
+use native.Mathlib.Numerals.{add-one}
 use native.Mathlib.Omega.{arith}
 use native.Mathlib.Nat.{div-div-eq-div-mul, mul-comm, mul-assoc, pow-suc}
 use native.Mathlib.Decide.{decLt, ℕ-discrete}
@@ -56,6 +57,11 @@ horner-lt f (suc w) h = omega (arith, pow-suc 2 w, horner-lt f w h, h w)
 -- room for one bit more
 pub horner-room : (f : ℕ → ℕ) (w : ℕ) → ((j : ℕ) → f j < 2) → w < 8 → horner f w * 2 + 1 < 2 ^ 8
 horner-room f w h l = omega (arith, horner-lt f w h, pow-mono {i = w} {j = 7} (omega arith))
+
+-- one digit more
+pub horner-more : (f : ℕ → ℕ) (k r b : ℕ) → r ≡ horner f k → b ≡ f k → r * 2 + b ≡ horner f (k + 1)
+unfolding horner
+horner-more f k r b p q = rw (add-one, ← p, ← q)
 
 -- the bits of two numbers, one behind the other
 pub horner-append : (f : ℕ → ℕ) (v w : ℕ) → horner f (v + w) ≡ horner f v * 2 ^ w + horner (λ j. f (v + j)) w

@@ -80,6 +80,14 @@ pub(crate) fn net_over(d: Design) -> bool
     if listed_net_over(&data, d.latches as usize, nets) {
         return true;
     }
+    let enable = d.enable;
+    if listed_net_over(&enable, d.latches as usize, nets) {
+        return true;
+    }
+    let clear = d.clear;
+    if listed_net_over(&clear, d.latches as usize, nets) {
+        return true;
+    }
     let shown = d.shown;
     listed_net_over(&shown, d.outputs as usize, nets)
 }

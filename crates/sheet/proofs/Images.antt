@@ -1,7 +1,5 @@
 -- The images of the sheet, computed.
 use Prim.Native.Nat.{ℕ, _-_}
-use mathlib.Core.Path.{refl}
-use mathlib.Core.Logic.{inl}
 use mathlib.Core.Bool.{Bool, _&&_}
 use mathlib.Core.List.{List, [], _∷_}
 use native.Mathlib.Omega.{arith}
@@ -12,14 +10,13 @@ use Rattle.memory.specs.Meaning.Refusals.{First}
 use Rattle.memory.proofs.Table.{first-of-lowest}
 use Rattle.memory.proofs.Computed.{every, every-at, and-left, and-right, passes, pass}
 use Rattle.netlist.specs.Meaning.Gates.{truth}
-use Rattle.netlist.specs.Meaning.Loops.{Path}
 use Rattle.netlist.specs.Meaning.Nets.{settled, nextState, outputs}
 use Rattle.reader.specs.Meaning.Fields.{bitAt, fieldAt}
-use Rattle.format.specs.Meaning.Format.{decoded}
+use Rattle.format.specs.Meaning.Format.{versionIn, decoded}
 use Rattle.format.specs.Meaning.Faults.{ImageFault}
 use Rattle.format.proofs.Refusals.{image-numbered}
 use Rattle.sheet.specs.Meaning.Sheet.{imageP, imageQ, imageM, imageH, imageRing, imagePad, Drawn}
-use Rattle.sheet.proofs.Testing.{fieldTests, endTests, readsNone, clean-7, clean-9, flat-free}
+use Rattle.sheet.proofs.Testing.{fieldTests, flatTests, clean-7, nine, flat-free, of-version-1}
 
 -- a design of one input, one flip-flop and one output
 module _ (b : List ℕ) (next out : ℕ → ℕ → ℕ) where
@@ -28,17 +25,17 @@ module _ (b : List ℕ) (next out : ℕ → ℕ → ℕ) where
 
   abbrev drawnTests : List Bool
   drawnTests =
-      passes (fieldTests b) ∷ passes (endTests b) ∷ every (readsNone (decoded b)) (decoded b .count)
+      passes (flatTests b) ∷ eqb (versionIn b) 1
       ∷ eqb (decoded b .inputs) 1 ∷ eqb (decoded b .latches) 1 ∷ eqb (decoded b .outputs) 1 ∷ every (λ s. every (stepTest s) 2) 2 ∷ []
 
   drawn : T (passes drawnTests) → Drawn b next out
   drawn t = record {
-    accepted = flat-free b (pass drawnTests 0 t) (pass drawnTests 1 t) (pass drawnTests 2 t);
-    inputs = eqb→eq (decoded b .inputs) 1 (pass drawnTests 3 t);
-    latches = eqb→eq (decoded b .latches) 1 (pass drawnTests 4 t);
-    outputs = eqb→eq (decoded b .outputs) 1 (pass drawnTests 5 t);
+    accepted = flat-free b (pass drawnTests 0 t) (of-version-1 b (pass drawnTests 1 t));
+    inputs = eqb→eq (decoded b .inputs) 1 (pass drawnTests 2 t);
+    latches = eqb→eq (decoded b .latches) 1 (pass drawnTests 3 t);
+    outputs = eqb→eq (decoded b .outputs) 1 (pass drawnTests 4 t);
     steps = λ s v h k.
-        let u = every-at (stepTest s) 2 v (every-at (λ s. every (stepTest s) 2) 2 s (pass drawnTests 6 t) h) k in
+        let u = every-at (stepTest s) 2 v (every-at (λ s. every (stepTest s) 2) 2 s (pass drawnTests 5 t) h) k in
         record {
           next = eqb→eq (next s v) (nextState (decoded b) s v) (and-left (eqb (next s v) (nextState (decoded b) s v)) (eqb (out s v) (outputs (decoded b) s v)) u);
           out = eqb→eq (out s v) (outputs (decoded b) s v) (and-right (eqb (next s v) (nextState (decoded b) s v)) (eqb (out s v) (outputs (decoded b) s v)) u);
@@ -61,18 +58,9 @@ pub h-drawn : Drawn imageH (λ s v. s) (λ s v. s)
 unfolding decoded fieldAt horner bitAt listOf settled truth
 h-drawn = drawn imageH (λ s v. s) (λ s v. s) tt
 
-ring-fields : T (passes (fieldTests imageRing))
-unfolding fieldAt horner bitAt
-ring-fields = tt
-
-ring-end : T (passes (endTests imageRing))
-unfolding fieldAt horner bitAt
-ring-end = tt
-
--- cell 0 reads its own net
 pub ring-nine : First (ImageFault imageRing) 9
 unfolding decoded fieldAt horner bitAt listOf
-ring-nine = first-of-lowest image-numbered (record { applies = ImageFault.loop 0 (Path.one (record { from = lit< tt; to = lit< tt; by = inl refl })); lower = clean-9 imageRing ring-fields ring-end })
+ring-nine = nine imageRing tt
 
 pad-fields : T (passes (fieldTests imagePad))
 unfolding fieldAt horner bitAt

@@ -2,26 +2,27 @@
 use Prim.Native.Nat.{ℕ, zero, suc, _<_}
 use mathlib.Core.Path.{_≡_, refl}
 use native.Mathlib.Omega.{arith}
-use lib.Dec.{lit<}
+use lib.Dec.{lit<, lit≤}
 use Rattle.numbers.specs.Meaning.Bits.{horner}
 use Rattle.memory.specs.Meaning.Lists.{listOf}
+use Rattle.memory.proofs.Table.{first-of-lowest}
 use Rattle.netlist.specs.Meaning.Gates.{truth}
 use Rattle.netlist.specs.Meaning.Nets.{settled}
-use Rattle.simulator.specs.Meaning.Clock.{IsStep}
 use Rattle.reader.specs.Meaning.Fields.{bitAt, fieldAt}
+use Rattle.format.specs.Meaning.Version.{plainTo}
 use Rattle.format.specs.Meaning.Format.{decoded}
+use Rattle.format.specs.Meaning.Faults.{ImageFault}
+use Rattle.format.proofs.Refusals.{image-numbered, clean-2}
 use Rattle.machine.specs.declared.Pair.{Pair}
 use Rattle.machine.specs.Meaning.Rounds.{A, Unchanged, FirstUnchanged}
 use Rattle.machine.specs.Meaning.Tables.{In, Ok}
-use Rattle.sheet.specs.Meaning.Readings.{imageBits, shifts, four, Readings}
+use Rattle.sheet.specs.Meaning.Readings.{imageLatches, imageTwo, imageTwoP, imageTwoOver, imageTwoRing, shifts, four, Readings}
+use Rattle.sheet.proofs.Testing.{clean-8, nine, flat-free, nineteen}
 
-input-0 : IsStep (decoded imageBits) 0 2 (record { next = 2; out = 1 })
-unfolding decoded fieldAt horner bitAt listOf settled truth
-input-0 = record { next = refl; out = refl }
-
-latch-0 : IsStep (decoded imageBits) 2 1 (record { next = 1; out = 2 })
-unfolding decoded fieldAt horner bitAt listOf settled truth
-latch-0 = record { next = refl; out = refl }
+-- flip-flop 0 has enable net 4
+needed : ImageFault imageLatches 19 → ⊥
+unfolding fieldAt horner bitAt
+needed (ImageFault.needless v p) = omega (arith, p 0 (lit< tt) .0)
 
 fed : Ok four 0
 fed = record { below = lit< tt }
@@ -51,7 +52,7 @@ second-round = record {
     earlier (suc i) h u = omega arith
 
 pub readings : Readings
-unfolding truth
+unfolding decoded fieldAt horner bitAt listOf settled truth plainTo
 readings = record {
   buf-values = refl;
   not-values = refl;
@@ -61,7 +62,28 @@ readings = record {
   nand-values = refl;
   nor-values = refl;
   xnor-values = refl;
-  input-0 = input-0;
-  latch-0 = latch-0;
+  input-0 = record { next = refl; out = refl };
+  latch-0 = record { next = refl; out = refl };
+  clear-enable = refl;
+  clear-alone = refl;
+  enable-alone = refl;
+  neither = refl;
+  latches-accepted = flat-free imageLatches tt needed;
+  data-nets = refl;
+  enable-nets = refl;
+  clear-nets = refl;
+  shown-nets = refl;
+  clears = record { next = refl; out = refl };
+  takes = record { next = refl; out = refl };
+  holds-0 = record { next = refl; out = refl };
+  holds-1 = record { next = refl; out = refl };
+  one-design = refl;
+  one-version = refl;
+  two-version = refl;
+  neither-two = first-of-lowest image-numbered (record { applies = ImageFault.version (λ e. omega (arith, e)) (λ e. omega (arith, e)); lower = clean-2 (lit≤ tt) });
+  two-nineteen = nineteen imageTwo tt;
+  two-p-nineteen = nineteen imageTwoP tt;
+  over-eight = first-of-lowest image-numbered (record { applies = ImageFault.over (lit< tt); lower = clean-8 imageTwoOver tt tt });
+  ring-nine = nine imageTwoRing tt;
   second-round = second-round;
 }

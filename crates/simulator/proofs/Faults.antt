@@ -5,21 +5,25 @@ use mathlib.Core.Logic.{_⊎_, inl, inr}
 use native.Mathlib.Omega.{arith}
 use Rattle.numbers.proofs.Order.{le-of-not-lt}
 use Rattle.memory.specs.Meaning.Refusals.{Free, First, FirstOrNone, earlierNumber}
-use Rattle.memory.specs.Working.Lowest.{Numbered}
+use Rattle.memory.specs.Working.Lowest.{Numbered, UpTo16}
 use Rattle.memory.proofs.Refusals.{some-number, lowest-number, no-number, first-early, first-late, first-either}
+use Rattle.memory.proofs.Table.{up-to-16}
 use Rattle.netlist.specs.declared.Design.{Design}
 use Rattle.netlist.specs.Meaning.Nets.{statesOf, vectorsOf}
 use Rattle.netlist.specs.Meaning.Faults.{DesignFault, Accepted}
-use Rattle.netlist.proofs.Numbers.{fault-bounds, design-numbered}
+use Rattle.netlist.proofs.Numbers.{fault-bounds, design-among}
 use Rattle.simulator.specs.Meaning.Clock.{ClockFault}
 use Rattle.simulator.specs.Meaning.Tables.{sizeOf, TableFault, InterfaceFault, BothFault}
 
 -- a clock: 3, 5 and 9 of the design, then 14
 module _ (d : Design) (s v : ℕ) where
+  pub clock-among : UpTo16 (ClockFault d s v)
+  clock-among n (ClockFault.design f) = design-among n f
+  clock-among n (ClockFault.state l) = (omega arith, omega arith)
+  clock-among n (ClockFault.vector l) = (omega arith, omega arith)
+
   pub clock-numbered : Numbered (ClockFault d s v)
-  clock-numbered n (ClockFault.design f) = design-numbered n f
-  clock-numbered n (ClockFault.state l) = (omega arith, omega arith)
-  clock-numbered n (ClockFault.vector l) = (omega arith, omega arith)
+  clock-numbered = up-to-16 clock-among
 
   before-14 : (n : ℕ) → ClockFault d s v n → n < 14 → DesignFault d n
   before-14 n (ClockFault.design f) h = f
@@ -39,10 +43,13 @@ module _ (d : Design) (s v : ℕ) where
 
 -- a table: 3, 5 and 9 of the design, then 12
 module _ (d : Design) (n m : ℕ) where
+  pub table-among : UpTo16 (TableFault d n m)
+  table-among k (TableFault.design f) = design-among k f
+  table-among k (TableFault.next l) = (omega arith, omega arith)
+  table-among k (TableFault.out l) = (omega arith, omega arith)
+
   pub table-numbered : Numbered (TableFault d n m)
-  table-numbered k (TableFault.design f) = design-numbered k f
-  table-numbered k (TableFault.next l) = (omega arith, omega arith)
-  table-numbered k (TableFault.out l) = (omega arith, omega arith)
+  table-numbered = up-to-16 table-among
 
   before-12 : (k : ℕ) → TableFault d n m k → k < 12 → DesignFault d k
   before-12 k (TableFault.design f) h = f
@@ -80,8 +87,11 @@ module _ (a b : Design) where
   is-10 (InterfaceFault.other-inputs f) = omega arith
   is-10 (InterfaceFault.other-outputs f) = omega arith
 
+  pub interface-among : UpTo16 (InterfaceFault a b)
+  interface-among k f = (omega (arith, is-10 f), omega (arith, is-10 f))
+
   pub interface-numbered : Numbered (InterfaceFault a b)
-  interface-numbered k f = (omega (arith, is-10 f), omega (arith, is-10 f))
+  interface-numbered = up-to-16 interface-among
 
   pub interface-10 : InterfaceFault a b 10 → FirstOrNone (InterfaceFault a b) 10
   interface-10 f = lowest-number interface-numbered (record { applies = f; lower = λ m h g. omega (arith, is-10 g) })
@@ -113,10 +123,13 @@ module _ (a b : Design) (n0 m0 n1 m1 : ℕ) where
   of-both k (BothFault.new f) = inl (EitherFault.new f)
   of-both k (BothFault.interface f) = inr f
 
+  pub both-among : UpTo16 (BothFault a b n0 m0 n1 m1)
+  both-among k (BothFault.old f) = table-among a n0 m0 k f
+  both-among k (BothFault.new f) = table-among b n1 m1 k f
+  both-among k (BothFault.interface f) = interface-among a b k f
+
   pub both-numbered : Numbered (BothFault a b n0 m0 n1 m1)
-  both-numbered k (BothFault.old f) = table-numbered a n0 m0 k f
-  both-numbered k (BothFault.new f) = table-numbered b n1 m1 k f
-  both-numbered k (BothFault.interface f) = interface-numbered a b k f
+  both-numbered = up-to-16 both-among
 
   pub both-lowest : {x y z w r : ℕ} → FirstOrNone (TableFault a n0 m0) x → FirstOrNone (TableFault b n1 m1) y → FirstOrNone (InterfaceFault a b) z
       → w ≡ earlierNumber x y → r ≡ earlierNumber w z → FirstOrNone (BothFault a b n0 m0 n1 m1) r

@@ -4,8 +4,9 @@ use mathlib.Core.List.{List}
 use native.Mathlib.Omega.{arith}
 use Rattle.numbers.proofs.Order.{not-lt}
 use Rattle.memory.specs.Meaning.Refusals.{FirstOrNone}
-use Rattle.memory.specs.Working.Lowest.{Numbered}
+use Rattle.memory.specs.Working.Lowest.{Numbered, UpTo16}
 use Rattle.memory.proofs.Refusals.{lowest-number, no-number}
+use Rattle.memory.proofs.Table.{up-to-16}
 use Rattle.machine.specs.declared.Sizes.{Sizes}
 use Rattle.machine.specs.Meaning.Tables.{Tables}
 use Rattle.machine.specs.Meaning.Faults.{OutOfRange, TooShort, LeadsOut, leads, TablesFault}
@@ -42,8 +43,11 @@ module _ {t : Tables} {room : ℕ} where
   fault-most (TablesFault.old-leads o) = omega arith
   fault-most (TablesFault.new-leads o) = omega arith
 
+  pub tables-among : UpTo16 (TablesFault t room)
+  tables-among m f = (omega (arith, fault-some f), omega (arith, fault-most f))
+
   pub tables-numbered : Numbered (TablesFault t room)
-  tables-numbered m f = (omega (arith, fault-some f), omega (arith, fault-most f))
+  tables-numbered = up-to-16 tables-among
 
   past-11 : InRange (t .sizes) → {m : ℕ} → TablesFault t room m → 12 ≤ m
   past-11 r (TablesFault.range o) = absurd (range-no r o)

@@ -27,6 +27,8 @@ pub(crate) const LIST_OF: usize = 12;
 
 pub(crate) const JUDGE: usize = 13;
 
+pub(crate) const EARLIER_NUMBER: usize = 14;
+
 // The number of the call of a name: how many names stand up to it, each between spaces; one that is not there has a higher number.
 pub(crate) fn call_of(names: &[u8], name: &[u8]) -> usize {
     let mut call = 0;

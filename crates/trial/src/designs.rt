@@ -7,8 +7,16 @@ use netlist::Cell;
 use netlist::Design;
 use netlist::Gate;
 
-// Where the cells stand in such a list, behind 4 sizes, 7 nets of flip-flops and 8 of outputs; and how many numbers it has.
-const CELLS_AT: usize = 19;
+// Where nets and cells stand in such a list, behind its 4 sizes; and how many numbers it has.
+const DATA_AT: usize = 4;
+
+const ENABLE_AT: usize = DATA_AT + Image::MOST_LATCHES;
+
+const CLEAR_AT: usize = ENABLE_AT + Image::MOST_LATCHES;
+
+const SHOWN_AT: usize = CLEAR_AT + Image::MOST_LATCHES;
+
+const CELLS_AT: usize = SHOWN_AT + Image::MOST_OUTPUTS;
 
 const NUMBERS: usize = CELLS_AT + 3 * Image::MOST_CELLS;
 
@@ -48,33 +56,40 @@ pub(crate) fn drawn_at(line: &[u8], at: usize, wanted: bool) -> Drawn {
     }
 }
 
-// The design of a list: sizes, nets read by flip-flops, nets shown as outputs, cells.
+// The design of a list: sizes, data, enable and clear nets of the flip-flops, nets shown as outputs, cells.
 fn in_memory(list: &[u16; NUMBERS]) -> Design {
+    let mut data = [0u16; Image::MOST_LATCHES];
+    take_nets(list, DATA_AT, &mut data);
+    let mut enable = [0u16; Image::MOST_LATCHES];
+    take_nets(list, ENABLE_AT, &mut enable);
+    let mut clear = [0u16; Image::MOST_LATCHES];
+    take_nets(list, CLEAR_AT, &mut clear);
+    let mut shown = [0u16; Image::MOST_OUTPUTS];
+    take_nets(list, SHOWN_AT, &mut shown);
     Design {
         inputs: low(list[0]),
         latches: low(list[1]),
         outputs: low(list[2]),
         count: list[3],
         cells: cells_of(list),
-        data: [
-            list[4],
-            list[5],
-            list[6],
-            list[7],
-            list[8],
-            list[9],
-            list[10],
-        ],
-        shown: [
-            list[11],
-            list[12],
-            list[13],
-            list[14],
-            list[15],
-            list[16],
-            list[17],
-            list[18],
-        ],
+        data,
+        enable,
+        clear,
+        shown,
+    }
+}
+
+// Puts the numbers from a place on into a list of nets, as far as there are any.
+fn take_nets(list: &[u16; NUMBERS], from: usize, nets: &mut [u16]) {
+    let mut at = from;
+    let mut k = 0;
+    while k < nets.len() {
+        if at >= NUMBERS {
+            return;
+        }
+        nets[k] = list[at];
+        at += 1;
+        k += 1;
     }
 }
 

@@ -7,11 +7,12 @@
 //
 // A list has a comma or a slash between two entries, and v*n stands for n entries v. Behind an x it is of bytes in hexadecimal, two digits
 // each, and between these no comma is needed. A design is its image behind an x; or a list, sound or not, of all that stands in memory: its
-// four sizes, 7 nets read by flip-flops, 8 shown as outputs, and a kind and two nets for each cell. What a list leaves out at its end is 0.
+// four sizes, 7 data, 7 enable and 7 clear nets of flip-flops, 8 nets shown as outputs, and a kind and two nets for each cell. What a list
+// leaves out at its end is 0.
 //
 //   length_of x111100008060                 the image
 //   read x111100008060
-//   fault_of 1,1,1,0/2,0*6/3                P in memory
+//   fault_of 1,1,1,0/2,0*6/1*7/0*7/3        P in memory
 //   clock x111100008060 0,1                 the state and the vector
 //   write x111100008060 7/6                 what the slices hold at entry, and the length of each, in the order of the call
 //   tabulate x111100008060 7/4,4
@@ -19,6 +20,7 @@
 //   compare x111100008060 x111100008040 7/4,4,4,4/4,4,1
 //   map_alike 7/4,4,4,4/4,4,4/2,2,2 0,1,0,1/0,0,1,1/0,1,0,1/0,1,0,1
 //   trace_of 7/4,4,4,4/4,4,1/2,2,2/0,1 0,1,0,1/0,0,1,1/0,1,0,1/0,1,0,1
+//   earlier_number 19,10                    two numbers of refusals
 //
 // map_alignable and judge are asked as map_alike is, list_of as trace_of: behind the lengths stand S of the old design, S of the new, V,
 // and the pair; the bytes are the four tables. length_of and read take no list of numbers: their image stands behind an x. An answer shows
@@ -93,7 +95,7 @@ fn ask(line: &[u8]) {
 fn ask_call(line: &[u8]) {
     let end = find(line, 0, b' ');
     let call = calls::call_of(
-        b" compare tabulate_both tabulate write clock fault_of length_of read map_alike map_alignable trace_of list_of judge ",
+        b" compare tabulate_both tabulate write clock fault_of length_of read map_alike map_alignable trace_of list_of judge earlier_number ",
         slices::cut(line, 0, end),
     );
     let old = designs::drawn_at(line, end, call <= calls::FAULT_OF);
@@ -116,7 +118,7 @@ fn takes(call: usize, numbers: usize, bytes: usize) -> bool {
     match call {
         calls::FAULT_OF => numbers == 0 && bytes == 0,
         calls::LENGTH_OF | calls::READ => numbers == 0,
-        calls::COMPARE..=calls::CLOCK => bytes == 0,
+        calls::COMPARE..=calls::CLOCK | calls::EARLIER_NUMBER => bytes == 0,
         _ => true,
     }
 }
@@ -133,6 +135,7 @@ fn answer(call: usize, old: Design, new: Design, n: [u16; NUMBERS], bytes: &[u8]
         calls::LENGTH_OF => show::measured(image::length_of(bytes)),
         calls::READ => show::reading(image::read(bytes)),
         calls::MAP_ALIKE..=calls::JUDGE => ask_tables(call, n, bytes),
+        calls::EARLIER_NUMBER => ask_earlier_number(n),
         _ => show::word(b"NO QUESTION: no such call"),
     }
 }
@@ -232,6 +235,11 @@ fn ask_write(design: Design, n: [u16; NUMBERS]) {
 fn ask_clock(design: Design, n: [u16; NUMBERS]) {
     let clocked = simulator::clock(design, wide(n[0]), wide(n[1]));
     show::clocked(clocked);
+}
+
+fn ask_earlier_number(n: [u16; NUMBERS]) {
+    let number = memory::earlier_number(designs::low(n[0]), designs::low(n[1]));
+    show::item(b"number ", number as usize);
 }
 
 // Cuts the four tables out of a list, and takes the sizes and the pair.

@@ -9,7 +9,7 @@ use lib.Seq.{length-take-le}
 use Rattle.numbers.proofs.Order.{zero-or}
 use Rattle.memory.specs.Meaning.Refusals.{Free, First}
 use Rattle.memory.specs.Meaning.Slices.{Zero}
-use Rattle.memory.proofs.Table.{first-of-lowest}
+use Rattle.memory.proofs.Table.{up-to-16, first-of-lowest}
 use Rattle.machine.specs.declared.Found.{Found}
 use Rattle.machine.specs.declared.Pair.{Pair}
 use Rattle.machine.specs.declared.Sizes.{Sizes}
@@ -64,7 +64,7 @@ module _ (t : Tables) where
 
   -- 16 applies where the list is longer than the slice, and nothing where it fits
   too-long : {n : ℕ} (l : List ℕ) → VerdictList m0 m1 z l → n < length l → First (ShortList m0 m1 z n) 16
-  too-long l w h = first-of-lowest (λ k s. numbered s) (record { applies = short l w h; lower = λ k b s. above s b })
+  too-long l w h = first-of-lowest (up-to-16 (λ k s. numbered s)) (record { applies = short l w h; lower = λ k b s. above s b })
     where
       numbered : {n k : ℕ} → ShortList m0 m1 z n k → (0 < k) × (k ≤ 16)
       numbered (short l w h) = (omega arith, omega arith)

@@ -7,13 +7,14 @@ use native.Mathlib.Omega.{arith}
 use lib.ListN.{length}
 use Rattle.memory.specs.Meaning.Refusals.{Free, Keeps, FirstOrNone}
 use Rattle.memory.specs.Meaning.Slices.{Zero, Cleared}
-use Rattle.memory.specs.Working.Lowest.{Numbered}
+use Rattle.memory.specs.Working.Lowest.{Numbered, UpTo16}
 use Rattle.memory.proofs.Refusals.{first-lower, keeps-second}
+use Rattle.memory.proofs.Table.{up-to-16}
 use Rattle.machine.specs.Meaning.Tables.{Tables, pairs, oldMachine, newMachine}
 use Rattle.machine.specs.Meaning.Faults.{TablesFault}
 use Rattle.machine.specs.Meaning.Lent.{Lent, leftOf}
 use Rattle.seek.specs.Working.Steps.{Good, Both}
-use Rattle.table_faults.proofs.Refusals.{fault-most, tables-numbered}
+use Rattle.table_faults.proofs.Refusals.{fault-most, tables-among}
 use Rattle.seek.proofs.Accepted.{good, room-enough}
 use Rattle.verdict.specs.declared.Verdict.{Verdict}
 use Rattle.verdict.specs.declared.Judged.{Judged}
@@ -41,9 +42,12 @@ module _ (t : Tables) (s : Lent) where
   either n (call f) = inl f
   either n (list f) = inr f
 
+  pub judge-among : UpTo16 (JudgeFault t s)
+  judge-among n (call f) = tables-among n f
+  judge-among n (list (short l w h)) = (omega arith, omega arith)
+
   pub judge-numbered : Numbered (JudgeFault t s)
-  judge-numbered n (call f) = tables-numbered n f
-  judge-numbered n (list (short l w h)) = (omega arith, omega arith)
+  judge-numbered = up-to-16 judge-among
 
   above : {n m : ℕ} → Room n → Short m → n ≤ m
   above f (short l w h) = omega (arith, fault-most f)

@@ -14,12 +14,11 @@ use Rattle.memory.proofs.Slices.{zero-unique}
 use Rattle.netlist.specs.declared.Design.{Design}
 use Rattle.netlist.specs.Meaning.Faults.{SameDesign}
 use Rattle.netlist.proofs.Same.{same-sym, same-fault}
-use Rattle.format.specs.Meaning.Format.{bytesOf}
 use Rattle.writer.specs.declared.Written.{Written}
 use Rattle.writer.specs.declared.Written.the-variants.{Bytes, Refused}
 use Rattle.writer.specs.Meaning.Writing.{WriteFault, writeReply, HoldsImage, Writes}
 use Rattle.writer.proofs.Images.{one-image}
-use Rattle.writer.proofs.RoundTrip.{front-bytes, same-image}
+use Rattle.writer.proofs.RoundTrip.{front-bytes, same-bytes, same-image}
 
 pub write-not-zero : {d : Design} {n : ℕ} {l : List ℕ} → Writes d n (Refused 0) l → ⊥
 write-not-zero p = omega (arith, first-numbered (p .keeps .0) .0)
@@ -51,18 +50,15 @@ one-writing d n r t a b u v =
     (sym (written-back r) ∙ ap written (o .0) ∙ written-back t, o .1)
 
 -- "A design's entries beyond G, L and O count for nothing": designs with the same entries in use are written alike
-same-bytes : {d c : Design} → SameDesign d c → bytesOf d ≡ bytesOf c
-same-bytes w = rw (w .count, w .latches, w .outputs)
-
 write-fault : (d c : Design) → SameDesign d c → (n k : ℕ) → WriteFault d n k → WriteFault c n k
 write-fault d c w n k (WriteFault.design f) = WriteFault.design (same-fault d c w f)
-write-fault d c w n k (WriteFault.short l) = WriteFault.short (omega (arith, same-bytes w))
+write-fault d c w n k (WriteFault.short l) = WriteFault.short (omega (arith, same-bytes d c w))
 
 pub same-writing : (d c : Design) → SameDesign d c → (n : ℕ) (r : Written) (l : List ℕ) → Writes d n r l → Writes c n r l
 same-writing d c w n r l p = record {
   size = p .size;
   keeps = keeps-map (write-fault d c w n) (write-fault c d (same-sym w) n)
-      (λ k h. record { bytes = h .bytes ∙ same-bytes w; image = same-image d c (take k l) w (h .image); beyond = h .beyond; each = h .each }) (λ z. z) (writeReply r) (p .keeps);
+      (λ k h. record { bytes = h .bytes ∙ same-bytes d c w; image = same-image d c w (take k l) (h .image); beyond = h .beyond; each = h .each }) (λ z. z) (writeReply r) (p .keeps);
 }
 
 pub written-alike : (d c : Design) → SameDesign d c → (n : ℕ) (r t : Written) (a b : List ℕ) → Writes d n r a → Writes c n t b → (r ≡ t) × (a ≡ b)

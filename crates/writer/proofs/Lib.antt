@@ -1,7 +1,11 @@
 pub mod Joining
+pub mod Heads
+pub mod Tails
 pub mod Images
 pub mod Encoding
+pub mod Packed
 pub mod Refusals
 pub mod RoundTrip
 pub mod Largest
 pub mod Determined
+pub mod Needless

@@ -3,11 +3,12 @@ use Prim.Native.Nat.{ℕ, _<_, _≤_}
 use native.Mathlib.Omega.{arith}
 use Rattle.numbers.proofs.Order.{not-lt}
 use Rattle.memory.specs.Meaning.Refusals.{Free, First}
-use Rattle.memory.specs.Working.Lowest.{Numbered}
+use Rattle.memory.specs.Working.Lowest.{Numbered, UpTo16}
 use Rattle.memory.proofs.Refusals.{first-early, first-late}
+use Rattle.memory.proofs.Table.{up-to-16}
 use Rattle.netlist.specs.declared.Design.{Design}
 use Rattle.netlist.specs.Meaning.Faults.{DesignFault, Accepted}
-use Rattle.netlist.proofs.Numbers.{fault-bounds, design-numbered}
+use Rattle.netlist.proofs.Numbers.{fault-bounds, design-among}
 use Rattle.format.specs.Meaning.Format.{bytesOf}
 use Rattle.writer.specs.Meaning.Writing.{WriteFault}
 
@@ -17,9 +18,12 @@ module _ (d : Design) (n : ℕ) where
   early k (WriteFault.design f) h = f
   early k (WriteFault.short l) h = absurd (omega arith)
 
+  pub write-among : UpTo16 (WriteFault d n)
+  write-among k (WriteFault.design f) = design-among k f
+  write-among k (WriteFault.short l) = (omega arith, omega arith)
+
   pub write-numbered : Numbered (WriteFault d n)
-  write-numbered k (WriteFault.design f) = design-numbered k f
-  write-numbered k (WriteFault.short l) = (omega arith, omega arith)
+  write-numbered = up-to-16 write-among
 
   pub own-number : {k : ℕ} → First (DesignFault d) k → First (WriteFault d n) k
   own-number l = first-early (DesignFault d) (WriteFault d n) 12 write-numbered (λ k f. WriteFault.design f) early (omega (arith, fault-bounds (l .applies) .1)) l

@@ -1,10 +1,10 @@
 -- Reading and writing undo each other.
-use Prim.Native.Nat.{ℕ, _+_, _-_, _<_, _≤_}
+use Prim.Native.Nat.{ℕ, _+_, _/_, _<_, _≤_}
 use mathlib.Core.Path.{_≡_, refl, sym, _∙_, ap}
+use mathlib.Core.Logic.{_⊎_, inl, inr}
 use mathlib.Core.List.{List}
 use native.Mathlib.Omega.{arith}
 use native.Mathlib.Decide.{decLt}
-use borrow.Author.Tests.{lt-ltb, le-ltb}
 use lib.Dec.{lit<}
 use lib.ListN.{length, getD, take, length-take, List·getD-eq-default}
 use lib.Seq.{getD-take}
@@ -13,11 +13,14 @@ use Rattle.memory.specs.Meaning.Slices.{Zero}
 use Rattle.netlist.specs.declared.Design.{Design}
 use Rattle.netlist.specs.Meaning.Gates.{kindOf, firstOf, secondOf}
 use Rattle.netlist.specs.Meaning.Faults.{Accepted, SameDesign}
+use Rattle.netlist.proofs.Same.{same-sym}
 use Rattle.image.specs.declared.Answer.{Answer}
 use Rattle.image.specs.declared.Answer.the-variants as Answer·variants
 use Rattle.image.specs.declared.Reading.{Reading}
-use Rattle.format.specs.Meaning.Format.{bytesOf, tailNet, decoded, Encodes}
+use Rattle.format.specs.Meaning.Format.{decoded, bitsOf, bytesOf, Encodes}
+use Rattle.format.specs.Meaning.Version.{versionOf}
 use Rattle.format.specs.Meaning.Faults.{ImageFault}
+use Rattle.format.proofs.Versions.{one-version, version-1, version-cases-of}
 use Rattle.image.specs.Meaning.Reading.{ReadsImage, readReply, emptyDesign}
 use Rattle.image.proofs.Accepted.{image-encodes, image-accepted, spelled, clean}
 use Rattle.writer.specs.declared.Written.{Written}
@@ -84,27 +87,48 @@ writes d a n w l h room = go w (h .keeps)
     go (Bytes k) (f, i) = ap Bytes (i .bytes)
     go (Refused k) (m, z) = absurd (none d n a room k (m .applies))
 
--- entries beyond the sizes do not change the image
-pub same-image : (d c : Design) (b : List ℕ) → SameDesign d c → Encodes d b → Encodes c b
-same-image d c b s e = record {
-  size = e .size ∙ rw (s .count, s .latches, s .outputs);
-  version = e .version;
-  inputs = e .inputs ∙ s .inputs;
-  latches = e .latches ∙ s .latches;
-  outputs = e .outputs ∙ s .outputs;
-  count = e .count ∙ s .count;
-  kinds = λ i h. let k : i < d .count = omega (arith, s .count) in e .kinds i k ∙ ap kindOf (s .gates i k);
-  firsts = λ i h. let k : i < d .count = omega (arith, s .count) in e .firsts i k ∙ ap firstOf (s .gates i k);
-  seconds = λ i h. let k : i < d .count = omega (arith, s .count) in e .seconds i k ∙ ap secondOf (s .gates i k);
-  tails = λ t h. e .tails t (omega (arith, s .latches, s .outputs)) ∙ tail t h;
-  pad = λ i h p. e .pad i (omega (arith, s .count, s .latches, s .outputs)) p;
-}
+-- entries beyond the sizes change neither the version nor the image
+one-carried : (d c : Design) → SameDesign d c → versionOf d ≡ 1 → versionOf c ≡ 1
+one-carried d c s e = one-version c (λ k h.
+    let q : k < d .latches = omega (arith, s .latches) in
+    let p = version-1 d e k q in
+    (sym (s .enables k q) ∙ p .0, sym (s .clears k q) ∙ p .1))
+
+pub same-version : (d c : Design) → SameDesign d c → versionOf d ≡ versionOf c
+same-version d c s = go (version-cases-of d) (version-cases-of c)
   where
-    tail : (t : ℕ) → t < c .latches + c .outputs → tailNet d t ≡ tailNet c t
-    tail t h = go (decLt t (d .latches))
-      where
-        go : Dec (t < d .latches) → tailNet d t ≡ tailNet c t
-        go (yes p) = simp (lt-ltb t (d .latches) p, lt-ltb t (c .latches) (omega (arith, s .latches))) (s .reads t p)
-        go (no p) =
-            let k : t - d .latches ≡ t - c .latches = omega (arith, s .latches) in
-            simp (le-ltb t (d .latches) (omega arith), le-ltb t (c .latches) (omega (arith, s .latches))) (s .shows (t - d .latches) (omega (arith, s .latches, s .outputs)) ∙ ap (λ (j : ℕ). getD (c .shown) j 0) k)
+    go : (versionOf d ≡ 1) ⊎ (versionOf d ≡ 2) → (versionOf c ≡ 1) ⊎ (versionOf c ≡ 2) → versionOf d ≡ versionOf c
+    go (inl e) f = e ∙ sym (one-carried d c s e)
+    go (inr e) (inl f) = one-carried c d (same-sym s) f ∙ sym f
+    go (inr e) (inr f) = e ∙ sym f
+
+module _ (d c : Design) (s : SameDesign d c) where
+  same-bits : bitsOf d ≡ bitsOf c
+  same-bits = rw (same-version d c s, s .count, s .latches, s .outputs)
+
+  pub same-bytes : bytesOf d ≡ bytesOf c
+  same-bytes = ap (λ (n : ℕ). (n + 7) / 8) same-bits
+
+  pub same-image : (b : List ℕ) → Encodes d b → Encodes c b
+  same-image b e = record {
+    size = e .size ∙ same-bytes;
+    version = e .version ∙ same-version d c s;
+    inputs = e .inputs ∙ s .inputs;
+    latches = e .latches ∙ s .latches;
+    outputs = e .outputs ∙ s .outputs;
+    count = e .count ∙ s .count;
+    kinds = λ i h. let k = cells i h in e .kinds i k ∙ ap kindOf (s .gates i k);
+    firsts = λ i h. let k = cells i h in e .firsts i k ∙ ap firstOf (s .gates i k);
+    seconds = λ i h. let k = cells i h in e .seconds i k ∙ ap secondOf (s .gates i k);
+    reads = λ k h. let l = latches k h in e .reads k l ∙ s .reads k l;
+    enables = λ k h. let l = latches k h in e .enables k l ∙ s .enables k l;
+    clears = λ k h. let l = latches k h in e .clears k l ∙ s .clears k l;
+    shows = λ k h. let l : k < d .outputs = omega (arith, s .outputs) in e .shows k l ∙ s .shows k l;
+    pad = λ i h p. e .pad i (omega (arith, same-bits)) p;
+  }
+    where
+      cells : (i : ℕ) → i < c .count → i < d .count
+      cells i h = omega (arith, s .count)
+
+      latches : (k : ℕ) → k < c .latches → k < d .latches
+      latches k h = omega (arith, s .latches)

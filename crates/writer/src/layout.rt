@@ -5,33 +5,42 @@ ghost use lib.ListN.{length, getD};
 ghost use Rattle.numbers.specs.Meaning.Bits.{bitOf};
 ghost use Rattle.memory.specs.Meaning.Slices.{Zero};
 ghost use Rattle.netlist.specs.Working.Sound.{Sound};
-ghost use Rattle.limits.specs.Meaning.Limits.{mostLatches, mostOutputs, mostCells};
+ghost use Rattle.limits.specs.Meaning.Limits.{mostCells};
 ghost use Rattle.limits.specs.Meaning.Layout.{mostBytes};
+ghost use Rattle.limits.specs.Working.Tails.{mostTails};
 ghost use Rattle.format.specs.Meaning.Format.{bytesOf};
 ghost use Rattle.writer.specs.Meaning.Writing.{HoldsImage};
-ghost use Rattle.writer.specs.Working.Packing.{wordBit, wordByte};
+ghost use Rattle.writer.specs.Working.Packing.{Heads, wordBit, wordByte};
+use format::fields;
+use format::fields::Header;
+use format::version;
 use limits::Image;
 use netlist::Design;
 
-// How many bytes the image of a design takes.
-pub(crate) fn bytes(d: Design) -> usize
+// The header of the image of a design.
+pub(crate) fn header(d: Design) -> Header
     requires { ⌜ Sound d ⌝ }
-    ensures { λ r. ⌜ r ≡ bytesOf d ⌝ }
+    ensures { λ r. ⌜ Heads d r ⌝ }
 {
-    let tails = d.latches as usize + d.outputs as usize;
-    (Image::HEADER_BITS + Image::CELL_BITS * d.count as usize + Image::NET_BITS * tails + 7) / 8
+    Header {
+        version: version::version_of(d),
+        inputs: d.inputs as u16,
+        latches: d.latches as u16,
+        outputs: d.outputs as u16,
+        count: d.count,
+    }
 }
 
 // Writes the image of a design into a cleared slice.
-pub(crate) fn put(d: Design, bytes: usize, image: &mut [u8])
-    requires { ⌜ (Sound d) × (bytes ≡ bytesOf d) × (bytes ≤ length (now image)) × (Zero (now image)) ⌝ }
+pub(crate) fn put(d: Design, h: Header, bytes: usize, image: &mut [u8])
+    requires { ⌜ (Sound d) × (Heads d h) × (bytes ≡ bytesOf d) × (bytes ≤ length (now image)) × (Zero (now image)) ⌝ }
     ensures { λ _. ⌜ (length (now (image .exit)) ≡ length (now (image .entry))) × (HoldsImage d (now (image .exit)) bytes) ⌝ }
 {
-    let words = crate::packing::words_of(d);
+    let words = crate::packing::words_of(d, h);
     let cells = words.cells;
     let tail = words.tail;
     let count = d.count as usize;
-    let tails = d.latches as usize + d.outputs as usize;
+    let tails = fields::tails(h);
     let mut k = 0;
     while k < bytes {
         image[k] = byte_at(words.header, &cells, &tail, count, tails, k);
@@ -43,12 +52,12 @@ pub(crate) fn put(d: Design, bytes: usize, image: &mut [u8])
 fn byte_at(
     header: u32,
     cells: &[u32; Image::MOST_CELLS],
-    tail: &[u16; Image::MOST_LATCHES + Image::MOST_OUTPUTS],
+    tail: &[u16; Image::MOST_TAILS],
     count: usize,
     tails: usize,
     k: usize,
 ) -> u8
-    requires { ⌜ (count ≤ mostCells) × (tails ≤ mostLatches + mostOutputs) × (k < mostBytes) ⌝ }
+    requires { ⌜ (count ≤ mostCells) × (tails ≤ mostTails) × (k < mostBytes) ⌝ }
     ensures { λ r. ⌜ r ≡ wordByte header (λ i. getD (now (cells .entry)) i 0) (λ t. getD (now (tail .entry)) t 0) count tails k ⌝ }
 {
     let mut n: u8 = 0;
@@ -63,12 +72,12 @@ fn byte_at(
 fn bit_at(
     header: u32,
     cells: &[u32; Image::MOST_CELLS],
-    tail: &[u16; Image::MOST_LATCHES + Image::MOST_OUTPUTS],
+    tail: &[u16; Image::MOST_TAILS],
     count: usize,
     tails: usize,
     i: usize,
 ) -> u8
-    requires { ⌜ (count ≤ mostCells) × (tails ≤ mostLatches + mostOutputs) ⌝ }
+    requires { ⌜ (count ≤ mostCells) × (tails ≤ mostTails) ⌝ }
     ensures { λ r. ⌜ r ≡ wordBit header (λ i. getD (now (cells .entry)) i 0) (λ t. getD (now (tail .entry)) t 0) count tails i ⌝ }
 {
     let behind = Image::HEADER_BITS + Image::CELL_BITS * count;

@@ -4,6 +4,7 @@ mod packing;
 
 ghost use lib.ListN.{length};
 ghost use Rattle.writer.specs.Meaning.Writing.{Writes};
+use format::fields;
 use netlist::Design;
 
 pub enum Written {
@@ -20,10 +21,11 @@ pub fn write(d: Design, image: &mut [u8]) -> Written
     if number != 0 {
         return Written::Refused(number);
     }
-    let bytes = layout::bytes(d);
+    let h = layout::header(d);
+    let bytes = fields::bytes(h);
     if image.len() < bytes {
         return Written::Refused(12);
     }
-    layout::put(d, bytes, image);
+    layout::put(d, h, bytes, image);
     Written::Bytes(bytes)
 }

@@ -1,14 +1,17 @@
 // Fields of a design that stand together in the image, packed into one number each, so that a bit of the image is a bit of one number.
 ghost use mathlib.Core.Path.{_≡_};
-ghost use Prim.Native.Nat.{ℕ, _+_, _^_, _<_, _≤_};
+ghost use Prim.Native.Nat.{ℕ, _+_, _*_, _^_, _<_, _≤_};
 ghost use Rattle.memory.specs.Working.Filling.{Filled};
 ghost use Rattle.netlist.specs.Meaning.Gates.{firstOf, secondOf};
-ghost use Rattle.limits.specs.Meaning.Limits.{mostLatches, mostOutputs, mostCells};
-ghost use Rattle.limits.specs.Meaning.Layout.{netBits};
+ghost use Rattle.limits.specs.Meaning.Limits.{mostCells};
+ghost use Rattle.limits.specs.Meaning.Layout.{netBits, netsEach};
+ghost use Rattle.limits.specs.Working.Tails.{mostTails};
 ghost use Rattle.netlist.specs.Meaning.Nets.{gateAt};
 ghost use Rattle.netlist.specs.Working.Sound.{Sound};
-ghost use Rattle.format.specs.Meaning.Format.{tailNet};
-ghost use Rattle.writer.specs.Working.Packing.{joined, headerWord, cellWord, Packs};
+ghost use Rattle.writer.specs.Working.Packing.{joined, Heads, headerWord, cellWord, latchNet, tailNet, Packs};
+ghost use Rattle.format.specs.Working.Scanning.{Narrow};
+use format::fields;
+use format::fields::Header;
 use limits::Image;
 use netlist::Design;
 use netlist::Gate;
@@ -16,16 +19,16 @@ use netlist::Gate;
 pub struct Words {
     pub header: u32,
     pub cells: [u32; Image::MOST_CELLS],
-    pub tail: [u16; Image::MOST_LATCHES + Image::MOST_OUTPUTS],
+    pub tail: [u16; Image::MOST_TAILS],
 }
 
-pub(crate) fn words_of(d: Design) -> Words
-    requires { ⌜ Sound d ⌝ }
+pub(crate) fn words_of(d: Design, h: Header) -> Words
+    requires { ⌜ (Sound d) × (Heads d h) ⌝ }
     ensures { λ r. ⌜ Packs d (r .header) (r .cells) (r .tail) ⌝ }
 {
-    let header = header_word(d);
+    let header = header_word(h);
     let cells = cell_words(d);
-    let tail = tail_nets(d);
+    let tail = tail_nets(d, fields::nets_each(h.version));
     Words {
         header,
         cells,
@@ -33,14 +36,14 @@ pub(crate) fn words_of(d: Design) -> Words
     }
 }
 
-fn header_word(d: Design) -> u32
-    requires { ⌜ Sound d ⌝ }
-    ensures { λ r. ⌜ r ≡ headerWord d ⌝ }
+fn header_word(h: Header) -> u32
+    requires { ⌜ (h .version ≤ 2) × (Narrow h) ⌝ }
+    ensures { λ r. ⌜ r ≡ headerWord (h .version) (h .inputs) (h .latches) (h .outputs) (h .count) ⌝ }
 {
-    let inputs = join(1, d.inputs as u16, Image::SIZE_BITS);
-    let latches = join(inputs, d.latches as u16, Image::SIZE_BITS);
-    let outputs = join(latches, d.outputs as u16, Image::SIZE_BITS);
-    join(outputs, d.count, Image::COUNT_BITS)
+    let inputs = join(wide(h.version), h.inputs, Image::SIZE_BITS);
+    let latches = join(inputs, h.latches, Image::SIZE_BITS);
+    let outputs = join(latches, h.outputs, Image::SIZE_BITS);
+    join(outputs, h.count, Image::COUNT_BITS)
 }
 
 // The cells of a design as numbers, 0 beyond them.
@@ -72,25 +75,37 @@ fn cell_word(g: Gate) -> u32
     join(first, netlist::second_of(g), Image::NET_BITS)
 }
 
-// The nets of the flip-flops and behind them those of the outputs, 0 beyond them.
-fn tail_nets(d: Design) -> [u16; Image::MOST_LATCHES + Image::MOST_OUTPUTS]
-    requires { ⌜ Sound d ⌝ }
-    ensures { λ r. ⌜ Filled (tailNet d) 0 (mostLatches + mostOutputs) (d .latches + d .outputs) r ⌝ }
+// The nets of the flip-flops, `each` of them a flip-flop, and behind them those of the outputs, 0 beyond them.
+fn tail_nets(d: Design, each: usize) -> [u16; Image::MOST_TAILS]
+    requires { ⌜ (Sound d) × (0 < each) × (each ≤ netsEach 2) ⌝ }
+    ensures { λ r. ⌜ Filled (tailNet each d) 0 mostTails (each * d .latches + d .outputs) r ⌝ }
 {
-    let latches = d.latches as usize;
-    let tails = latches + d.outputs as usize;
-    let mut nets = [0u16; Image::MOST_LATCHES + Image::MOST_OUTPUTS];
+    let behind = each * d.latches as usize;
+    let tails = behind + d.outputs as usize;
+    let mut nets = [0u16; Image::MOST_TAILS];
     let mut t = 0;
     while t < tails {
-        let net = if t < latches {
-            d.data[t]
+        let net = if t < behind {
+            let k = t / each;
+            latch_net(d.data[k], d.enable[k], d.clear[k], t % each)
         } else {
-            d.shown[t - latches]
+            d.shown[t - behind]
         };
         nets[t] = net;
         t += 1;
     }
     nets
+}
+
+// Net j of a flip-flop.
+fn latch_net(data: u16, enable: u16, clear: u16, j: usize) -> u16
+    ensures { λ r. ⌜ r ≡ latchNet «data» enable clear j ⌝ }
+{
+    match j {
+        0 => data,
+        1 => enable,
+        _ => clear,
+    }
 }
 
 pub(crate) fn wide(n: u16) -> u32

@@ -8,7 +8,7 @@ abbrev Inv-loop : tie.InvT-loop
 Inv-loop tally₀ random₀ round₀ tally random round = Unit {0}
 
 abbrev μ-loop : tie.MeasureT-loop
-μ-loop tally₀ random₀ round₀ tally random round = 557 - round
+μ-loop tally₀ random₀ round₀ tally random round = 512 - round
 
 pub main-spec : {M : Type 1} → statement M
 main-spec =

@@ -8,7 +8,7 @@ abbrev Inv-loop : tie.InvT-loop
 Inv-loop list tally₀ way₀ tally way = Unit {0}
 
 abbrev μ-loop : tie.MeasureT-loop
-μ-loop list tally₀ way₀ tally way = 6296 - way
+μ-loop list tally₀ way₀ tally way = 6416 - way
 
 pub spoils-spec : {M : Type 1} → statement M
 spoils-spec =

@@ -7,7 +7,7 @@ use Prim.Native.Nat.{ℕ, _-_}
 use Prim.Native.String.{String}
 use mathlib.Core.Path.{_≡_}
 use mathlib.Core.List.{List, [], _∷_}
-use lib.ListN.{length, getD}
+use lib.ListN.{length, getD, replicate}
 use Rattle.memory.specs.Meaning.Lists.{listOf}
 use Rattle.memory.specs.Meaning.Orders.{FirstNumber}
 use Rattle.netlist.specs.declared.Gate.{Gate}
@@ -34,6 +34,8 @@ design i gates reads shows = record {
   count = length gates;
   cells = listOf mostCells (λ k. record { gate = getD gates k (Buf 0) });
   «data» = listOf mostLatches (λ k. getD reads k 0);
+  enable = replicate mostLatches 1;
+  clear = replicate mostLatches 0;
   shown = listOf mostOutputs (λ k. getD shows k 0);
 }
 

@@ -3,6 +3,8 @@
 --   Evaluable d l    what a clock needs: sizes and nets in range, and an order l of the cells
 --   Holds f l        the list l holds f n for every net n
 --   Readable l n w   the first n nets of the list l are places of w, and w holds bits
+--   latchedIn x e c own w k   what flip-flop k takes by the data, enable and clear nets of the lists x, e and c, with the values w
+--   Latchable x e c own n w   the first n of these nets, and n from `own` on, are places of w, and w holds bits
 --   Spreads start width x j before after   the first j of the bits of x were put at `start` and behind
 use Prim.Native.Nat.{ℕ, _+_, _<_, _≤_}
 use mathlib.Core.Path.{_≡_}
@@ -12,6 +14,7 @@ use Rattle.numbers.specs.Meaning.Bits.{bitOf}
 use Rattle.memory.specs.Working.Filling.{Filled}
 use Rattle.netlist.specs.declared.Design.{Design}
 use Rattle.limits.specs.Meaning.Limits.{mostInputs, mostLatches, mostCells}
+use Rattle.netlist.specs.Meaning.Nets.{latched}
 use Rattle.order.specs.Meaning.Order.{Ordered}
 use Rattle.netlist.specs.Working.Sound.{Sound}
 
@@ -30,6 +33,15 @@ pub record Readable (nets : List ℕ) (n : ℕ) (vals : List ℕ) : Type 0 where
   pub few : n ≤ 8
   pub places : (k : ℕ) → k < n → getD nets k 0 < mostNets
   pub bits : (k : ℕ) → getD vals k 0 < 2
+
+abbrev pub latchedIn : List ℕ → List ℕ → List ℕ → ℕ → List ℕ → ℕ → ℕ
+latchedIn x e c own vals k = latched (getD vals (getD c k 0) 0) (getD vals (getD e k 0) 0) (getD vals (getD x k 0) 0) (getD vals (own + k) 0)
+
+pub record Latchable (x e c : List ℕ) (own n : ℕ) (vals : List ℕ) : Type 0 where
+  pub reads : Readable x n vals
+  pub enables : Readable e n vals
+  pub clears : Readable c n vals
+  pub owns : own + n ≤ mostNets
 
 -- whatever f fills `before` below `start` and goes on with the bits of x, fills `after` as far as the first j of these bits
 pub record Spreads (start width x j : ℕ) (before after : List ℕ) : Type 0 where

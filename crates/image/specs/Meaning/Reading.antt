@@ -28,6 +28,8 @@ emptyDesign = record {
   count = 0;
   cells = replicate mostCells blankCell;
   «data» = replicate mostLatches 0;
+  enable = replicate mostLatches 1;
+  clear = replicate mostLatches 0;
   shown = replicate mostOutputs 0;
 }
 

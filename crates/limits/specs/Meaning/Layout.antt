@@ -2,12 +2,16 @@
 --   sizeBits, countBits, kindBits, netBits    how many bits the fields take
 --   inputsAt, latchesAt, outputsAt, countAt   where the header's fields stand, behind the version
 --   headerBits, cellBits                      bits of the header, and of a cell
---   bitsFor g l o, bytesFor g l o             bits and bytes of an image of g cells, l flip-flops and o outputs
+--   netsEach v                                nets a flip-flop in an image of version v
+--   tailsFor v l o                            nets behind the cells of an image of version v, l flip-flops and o outputs
+--   bitsFor v g l o, bytesFor v g l o         bits and bytes of an image of version v, g cells, l flip-flops and o outputs
 --   mostBytes                                 bytes of the largest image
 use Prim.Native.Nat.{ℕ, _+_, _*_, _/_}
+use mathlib.Core.Bool.{cond}
+use lib.Dec.{eqb}
 use Rattle.limits.specs.Meaning.Limits.{mostLatches, mostOutputs, mostCells}
 
--- "The header is version (4 bits, value 1), inputs I (4 bits ..), flip-flops L (4 bits ..), outputs O (4 bits ..), cells G (9 bits ..)"
+-- "The header is version (4 bits, value 1 [or 2]), inputs I (4 bits ..), flip-flops L (4 bits ..), outputs O (4 bits ..), cells G (9 bits ..)"
 abbrev pub sizeBits : ℕ
 sizeBits = 4
 
@@ -39,13 +43,20 @@ netBits = 9
 abbrev pub cellBits : ℕ
 cellBits = kindBits + netBits + netBits
 
+-- "L nets read by the flip-flops"; "Image version 2 gives each flip-flop three 9-bit nets: data, enable, clear"
+abbrev pub netsEach : ℕ → ℕ
+netsEach v = cond (eqb v 2) 3 1
+
 -- "Then follow G cells .., L nets .., O nets .., and zero bits to the end of the byte"
-abbrev pub bitsFor : ℕ → ℕ → ℕ → ℕ
-bitsFor g l o = headerBits + cellBits * g + netBits * (l + o)
+abbrev pub tailsFor : ℕ → ℕ → ℕ → ℕ
+tailsFor v l o = netsEach v * l + o
 
-abbrev pub bytesFor : ℕ → ℕ → ℕ → ℕ
-bytesFor g l o = (bitsFor g l o + 7) / 8
+abbrev pub bitsFor : ℕ → ℕ → ℕ → ℕ → ℕ
+bitsFor v g l o = headerBits + cellBits * g + netBits * tailsFor v l o
 
--- "The largest image has 5,536 bits, 692 bytes"
+abbrev pub bytesFor : ℕ → ℕ → ℕ → ℕ → ℕ
+bytesFor v g l o = (bitsFor v g l o + 7) / 8
+
+-- "The largest image is 708 bytes"
 abbrev pub mostBytes : ℕ
-mostBytes = bytesFor mostCells mostLatches mostOutputs
+mostBytes = bytesFor 2 mostCells mostLatches mostOutputs

@@ -1,8 +1,8 @@
--- `earlier_number`: by the cases that the code tests. In document 01's order the earlier of two numbers is the lower.
-use mathlib.Core.Path.{_≡_, sym, _∙_}
-use Prim.Native.Nat.{min}
+-- `earlier_number`: by the cases that the code tests, and by places.
+use mathlib.Core.Path.{_≡_, sym}
 use native.Mathlib.Omega.{arith}
-use Rattle.memory.proofs.Table.{earlier-lower, earlier-none, none-earlier}
+use Rattle.memory.proofs.Places.{earlier-first, earlier-second, earlier-none, none-earlier}
+use borrow.Author.Needs.{needs}
 use Rattle.memory.proofs.earlier_number.Statement.{statement}
 use Rattle.memory.proofs.earlier_number.Tie as tie
 
@@ -13,10 +13,10 @@ returns-2 : tie.Need-returns-2
 returns-2 c = sym (earlier-none _ _ (c .if2 .taken))
 
 returns-3 : tie.Need-returns-3
-returns-3 c = omega (arith, earlier-lower _ _ (c .before .before .if1 .left) (c .before .if2 .left))
+returns-3 c = earlier-first _ _ (omega arith) (omega arith) (omega (arith, c .before .before .place .ensures, c .before .place2 .ensures))
 
 returns-4 : tie.Need-returns-4
-returns-4 c = omega (arith, earlier-lower _ _ (c .before .before .if1 .left) (c .before .if2 .left))
+returns-4 c = earlier-second _ _ (omega arith) (omega arith) (omega (arith, c .before .before .place .ensures, c .before .place2 .ensures))
 
 pub earlier-number-spec : {M : Type 1} → statement M
-earlier-number-spec = tie.close (tie.spec returns returns-2 returns-3 returns-4)
+earlier-number-spec = tie.close (tie.spec returns returns-2 (λ c κs. search needs) (λ c κs. search needs) returns-3 returns-4)

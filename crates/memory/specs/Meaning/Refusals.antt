@@ -1,13 +1,13 @@
 -- Who is turned away: what a call that answers or refuses promises.
 --   Free P             no number applies
---   First P n          n is the first number of document 01's order that applies
+--   First P n          n is the first number of the order that applies
 --   FirstOrNone P n    the same, or n is 0 where none applies
 --   earlierNumber a b  of two such numbers, of which 0 is none, the one that comes first
 --   Reply A            an answer with its values, or a refusal with its number
 --   Right F N A C r    the reply r is right: an answer a, with A a, where F; else a number n with N n, and C
 --   Keeps P A C r      right for a call: an answer where no number applies, else the first that does
 --   KeepsFirst P order num A C r   right in an order of its own: an answer where no entry applies, else the number of the first that does
--- P n says that the number n of document 01's table applies to a call. No number is 0.
+-- P n says that the number n of the papers' tables applies to a call. No number is 0.
 use Prim.Native.Nat.{ℕ, zero, suc}
 use mathlib.Core.Path.{_≡_}
 use mathlib.Core.List.{List}

@@ -13,7 +13,7 @@ use Rattle.netlist.specs.Meaning.Nets.{netsOf, gateAt}
 use Rattle.netlist.specs.Meaning.Loops.{OnLoop}
 
 -- "Every call that takes a design in memory looks for 3, 5 and 9 in it again": 3 a size over its limit; 5 a net number not below
--- 2 + I + L + G; 9 a loop of cells
+-- 2 + I + L + G, of a flip-flop its data, enable or clear net; 9 a loop of cells
 pub data DesignFault (d : Design) : ℕ → Type 0 where
   inputs : mostInputs < d .inputs → DesignFault d 3
   latches : mostLatches < d .latches → DesignFault d 3
@@ -22,6 +22,8 @@ pub data DesignFault (d : Design) : ℕ → Type 0 where
   first : (i : ℕ) → i < d .count → netsOf d ≤ firstOf (gateAt d i) → DesignFault d 5
   second : (i : ℕ) → i < d .count → netsOf d ≤ secondOf (gateAt d i) → DesignFault d 5
   read : (k : ℕ) → k < d .latches → netsOf d ≤ getD (d .«data») k 0 → DesignFault d 5
+  enable : (k : ℕ) → k < d .latches → netsOf d ≤ getD (d .enable) k 0 → DesignFault d 5
+  clear : (k : ℕ) → k < d .latches → netsOf d ≤ getD (d .clear) k 0 → DesignFault d 5
   shown : (k : ℕ) → k < d .outputs → netsOf d ≤ getD (d .shown) k 0 → DesignFault d 5
   loop : (i : ℕ) → OnLoop d i → DesignFault d 9
 
@@ -37,4 +39,6 @@ pub record SameDesign (d c : Design) : Type 0 where
   pub count : d .count ≡ c .count
   pub gates : (i : ℕ) → i < d .count → gateAt d i ≡ gateAt c i
   pub reads : (k : ℕ) → k < d .latches → getD (d .«data») k 0 ≡ getD (c .«data») k 0
+  pub enables : (k : ℕ) → k < d .latches → getD (d .enable) k 0 ≡ getD (c .enable) k 0
+  pub clears : (k : ℕ) → k < d .latches → getD (d .clear) k 0 ≡ getD (c .clear) k 0
   pub shows : (k : ℕ) → k < d .outputs → getD (d .shown) k 0 ≡ getD (c .shown) k 0

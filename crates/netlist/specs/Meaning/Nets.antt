@@ -7,7 +7,8 @@
 --   settled d s v r n         the value of net n after r rounds in which every cell takes what it reads
 --   value d s v n             the value of net n in state s under vector v
 --   Satisfies d s v f         the assignment f gives every net what its source or its cell says
---   nextBit, outputBit        what flip-flop k takes at the clock, and what output k shows before it
+--   latched c e x h           what a flip-flop that holds h makes of the values of its clear c, enable e and data x
+--   nextBit, outputBit        what flip-flop k holds after the clock, and what output k shows before it
 --   nextState, outputs        one clock
 --   statesOf d, vectorsOf d   how many states and vectors there are
 -- `value` computes and is believed; for a design without loops it is the one assignment with `Satisfies` (proofs/Values).
@@ -58,9 +59,16 @@ pub record Satisfies (d : Design) (s v : ℕ) (f : ℕ → ℕ) : Type 0 where
   pub sources : (n : ℕ) → n < cellBase d → f n ≡ source d s v n
   pub cells : (i : ℕ) → i < d .count → f (cellBase d + i) ≡ gateValue (gateAt d i) f
 
+-- "Clear 1 makes the next state 0; else enable 1 takes the data; else the bit holds"
+abbrev pub latched : ℕ → ℕ → ℕ → ℕ → ℕ
+latched (suc c) e x h = 0
+latched zero (suc e) x h = x
+latched zero zero x h = h
+
 -- "One step from a state under a vector gives outputs from the values before the clock, and the next state"
 abbrev pub nextBit : Design → ℕ → ℕ → ℕ → ℕ
-nextBit d s v k = value d s v (getD (d .«data») k 0)
+nextBit d s v k =
+    latched (value d s v (getD (d .clear) k 0)) (value d s v (getD (d .enable) k 0)) (value d s v (getD (d .«data») k 0)) (bitOf (d .latches) s k)
 
 abbrev pub outputBit : Design → ℕ → ℕ → ℕ → ℕ
 outputBit d s v k = value d s v (getD (d .shown) k 0)

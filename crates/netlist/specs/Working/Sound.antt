@@ -31,6 +31,8 @@ pub record Sound (d : Design) : Type 0 where
   pub firsts : (i : ℕ) → i < d .count → firstOf (gateAt d i) < netsOf d
   pub seconds : (i : ℕ) → i < d .count → secondOf (gateAt d i) < netsOf d
   pub reads : (k : ℕ) → k < d .latches → getD (d .«data») k 0 < netsOf d
+  pub enables : (k : ℕ) → k < d .latches → getD (d .enable) k 0 < netsOf d
+  pub clears : (k : ℕ) → k < d .latches → getD (d .clear) k 0 < netsOf d
   pub shows : (k : ℕ) → k < d .outputs → getD (d .shown) k 0 < netsOf d
 
 -- base is the first cell net, and m says which cells are marked

@@ -8,7 +8,7 @@ abbrev Inv-loop : tie.InvT-loop
 Inv-loop list bits₀ from₀ place₀ bits from place = Unit {0}
 
 abbrev μ-loop : tie.MeasureT-loop
-μ-loop list bits₀ from₀ place₀ bits from place = 787 - place
+μ-loop list bits₀ from₀ place₀ bits from place = 802 - place
 
 pub put-spec : {M : Type 1} → statement M
 put-spec =
@@ -16,7 +16,6 @@ put-spec =
     (tie.spec
     Inv-loop
     μ-loop
-    (λ c. search needs)
     (λ c. search needs)
     (λ c κs. search needs)
     (λ c κs. search needs)

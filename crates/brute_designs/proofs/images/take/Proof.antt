@@ -8,7 +8,7 @@ abbrev Inv-loop : tie.InvT-loop
 Inv-loop bits list₀ from₀ place₀ list from place = Unit {0}
 
 abbrev μ-loop : tie.MeasureT-loop
-μ-loop bits list₀ from₀ place₀ list from place = 787 - place
+μ-loop bits list₀ from₀ place₀ list from place = 802 - place
 
 pub take-spec : {M : Type 1} → statement M
 take-spec =
@@ -16,6 +16,7 @@ take-spec =
     (tie.spec
     Inv-loop
     μ-loop
+    (λ c κs. search needs)
     (λ c. search needs)
     (λ c κs. search needs)
     (λ c κs. search needs)

@@ -8,7 +8,7 @@ abbrev Inv-loop : tie.InvT-loop
 Inv-loop one other place₀ place = Unit {0}
 
 abbrev μ-loop : tie.MeasureT-loop
-μ-loop one other place₀ place = 787 - place
+μ-loop one other place₀ place = 802 - place
 
 pub first-difference-spec : {M : Type 1} → statement M
 first-difference-spec =

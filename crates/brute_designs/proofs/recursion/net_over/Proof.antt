@@ -8,7 +8,7 @@ abbrev Inv-loop : tie.InvT-loop
 Inv-loop list nets place₀ place = Unit {0}
 
 abbrev μ-loop : tie.MeasureT-loop
-μ-loop list nets place₀ place = 787 - place
+μ-loop list nets place₀ place = 802 - place
 
 pub net-over-spec : {M : Type 1} → statement M
 net-over-spec =

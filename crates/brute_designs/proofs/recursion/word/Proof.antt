@@ -5,10 +5,10 @@ use Rattle.brute_designs.proofs.recursion.word.Statement.{statement}
 use Rattle.brute_designs.proofs.recursion.word.Tie as tie
 
 abbrev Inv-loop : tie.InvT-loop
-Inv-loop list entry from n number₀ k₀ number k = Unit {0}
+Inv-loop list entry from apart n number₀ place₀ counter₀ number place counter = Unit {0}
 
 abbrev μ-loop : tie.MeasureT-loop
-μ-loop list entry from n number₀ k₀ number k = n - k
+μ-loop list entry from apart n number₀ place₀ counter₀ number place counter = n - counter
 
 pub word-spec : {M : Type 1} → statement M
 word-spec =

@@ -8,7 +8,7 @@ abbrev Inv-loop : tie.InvT-loop
 Inv-loop list place₀ t4 place = Unit {0}
 
 abbrev μ-loop : tie.MeasureT-loop
-μ-loop list place₀ t4 place = 787 - place
+μ-loop list place₀ t4 place = 802 - place
 
 pub numbers-spec : {M : Type 1} → statement M
 numbers-spec =

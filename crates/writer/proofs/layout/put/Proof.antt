@@ -1,13 +1,17 @@
 -- `put`: the bytes passed are the image's, and the others 0.
-use Prim.Native.Nat.{ℕ, _+_, _-_, _≤_}
-use mathlib.Core.Path.{_≡_, subst}
+use Prim.Native.Nat.{ℕ, _-_, _≤_}
+use mathlib.Core.Path.{_≡_, _∙_, subst₂}
 use native.Mathlib.Omega.{arith}
 use lib.ListN.{length, getD}
 use Rattle.memory.specs.Working.Filling.{Filled}
 use Rattle.memory.proofs.Filling.{filled-zero, filled-more}
+use Rattle.limits.proofs.Sizes.{tails-le-most, bytes-le-most}
 use Rattle.format.specs.Meaning.Format.{bytesOf}
+use Rattle.format.specs.Meaning.Version.{versionOf}
 use Rattle.writer.specs.Working.Packing.{wordByte}
-use Rattle.writer.proofs.Encoding.{holds-image}
+use Rattle.writer.proofs.Heads.{heads-tails}
+use Rattle.writer.proofs.Images.{tailsOf}
+use Rattle.writer.proofs.Packed.{holds-image}
 use borrow.Author.Needs.{needs}
 use Rattle.writer.proofs.layout.put.Statement.{statement}
 use Rattle.writer.proofs.layout.put.Tie as tie
@@ -18,24 +22,29 @@ Inv-loop bytes image₀ words cells tail count tails k₀ image k = (k ≤ bytes
 abbrev μ-loop : tie.MeasureT-loop
 μ-loop bytes image₀ words cells tail count tails k₀ image k = bytes - k
 
-words-of-requires : tie.Need-words-of-requires Inv-loop μ-loop
-words-of-requires c κs = c .before .pre .0
+tails-requires : tie.Need-tails-requires Inv-loop μ-loop
+tails-requires c κs = c .before .before .before .before .before .pre .1 .narrow
 
 loop-holds : tie.Need-loop-holds Inv-loop μ-loop
-loop-holds c = (search needs, filled-zero _ _ (c .before .before .before .before .before .before .before .pre .3))
+loop-holds c = (search needs, filled-zero _ _ (c .before .before .before .before .before .before .pre .4))
 
 byte-at-requires : tie.Need-byte-at-requires Inv-loop μ-loop
 byte-at-requires c κs =
-    let w = c .before .before .before .before .before .before .before .before .before .before .before .pre .0 in
-    (w .few-cells, omega (arith, w .few-latches, w .few-outputs), omega (arith, c .before .before .before .before .before .before .before .before .before .before .before .pre .1, w .few-cells, w .few-latches, w .few-outputs))
+    let p = c .before .before .before .before .before .before .before .before .before .before .pre in
+    let d = c .before .before .before .before .before .before .before .before .before .before .args .d in
+    let w = p .0 in (
+      w .few-cells,
+      omega (arith, c .before .before .before .before .tails .ensures .0, heads-tails (p .1), tails-le-most (versionOf d) (d .latches) (d .outputs) (w .few-latches) (w .few-outputs)),
+      omega (arith, p .2, bytes-le-most (versionOf d) (d .count) (d .latches) (d .outputs) (w .few-cells) (w .few-latches) (w .few-outputs)),
+    )
 
 slice-write-image : tie.Need-slice-write-image Inv-loop μ-loop
-slice-write-image c = omega (arith, c .before .before .before .before .loop .inv .1 .size, c .before .before .before .before .before .before .before .before .before .before .before .before .pre .2)
+slice-write-image c = omega (arith, c .before .before .before .before .loop .inv .1 .size, c .before .before .before .before .before .before .before .before .before .before .before .pre .3)
 
 loop-again : tie.Need-loop-again Inv-loop μ-loop
 loop-again c =
     let l = c .before .before .before .before .loop in
-    (search needs, filled-more _ 0 _ (l .k) (l .image) (c .byte-at .result) (omega (arith, c .before .before .before .before .before .before .before .before .before .before .before .before .pre .2)) (c .byte-at .ensures) (l .inv .1))
+    (search needs, filled-more _ 0 _ (l .k) (l .image) (c .byte-at .result) (omega (arith, c .before .before .before .before .before .before .before .before .before .before .before .pre .3)) (c .byte-at .ensures) (l .inv .1))
 
 same-length : tie.Need-same-length Inv-loop μ-loop
 same-length c = c .before .loop .inv .1 .size
@@ -43,10 +52,13 @@ same-length c = c .before .loop .inv .1 .size
 returns : tie.Need-returns Inv-loop μ-loop
 returns c =
     let l = c .before .loop in
-    let d = c .before .before .before .before .before .before .before .before .before .args .d in
-    let e : l .k ≡ bytesOf d = omega (arith, c .before .before .before .before .before .before .before .before .before .pre .1) in
-    let f = subst (λ (k : ℕ). Filled (wordByte (c .before .before .before .before .before .before .before .words-of .result .header) (λ i. getD (c .before .before .before .before .before .before .before .words-of .result .cells) i 0) (λ t. getD (c .before .before .before .before .before .before .before .words-of .result .tail) t 0) (d .count) (d .latches + d .outputs)) 0 (length (c .before .before .before .before .before .before .before .before .before .args .image .now)) k (l .image)) e (l .inv .1) in
-    (l .inv .1 .size, rw (c .before .before .before .before .before .before .before .before .before .pre .1) (holds-image d (c .before .before .before .before .before .before .before .before .before .pre .0) _ _ _ (c .before .before .before .before .before .before .before .words-of .ensures) _ (l .image) (omega (arith, c .before .before .before .before .before .before .before .before .before .pre .1, c .before .before .before .before .before .before .before .before .before .pre .2)) f))
+    let p = c .before .before .before .before .before .before .before .before .pre in
+    let d = c .before .before .before .before .before .before .before .before .args .d in
+    let r = c .before .before .before .before .before .before .words-of .result in
+    let e : l .k ≡ bytesOf d = omega (arith, p .2) in
+    let t : c .before .before .tails .result ≡ tailsOf d = c .before .before .tails .ensures .0 ∙ heads-tails (p .1) in
+    let f = subst₂ (λ (k n : ℕ). Filled (wordByte (r .header) (λ i. getD (r .cells) i 0) (λ t. getD (r .tail) t 0) (d .count) n) 0 (length (c .before .before .before .before .before .before .before .before .args .image .now)) k (l .image)) e t (l .inv .1) in
+    (l .inv .1 .size, rw (p .2) (holds-image d (p .0) _ _ _ (c .before .before .before .before .before .before .words-of .ensures) _ (l .image) (omega (arith, p .2, p .3)) f))
 
 pub put-spec : {M : Type 1} → statement M
 put-spec =
@@ -54,11 +66,9 @@ put-spec =
     (tie.spec
     Inv-loop
     μ-loop
-    words-of-requires
+    (λ c κs. search needs)
     (λ c. search needs)
-    (λ c. search needs)
-    (λ c. search needs)
-    (λ c. search needs)
+    tails-requires
     loop-holds
     byte-at-requires
     slice-write-image

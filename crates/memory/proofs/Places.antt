@@ -1,0 +1,84 @@
+-- Places in the order: the earlier of two numbers, and where each number stands.
+use Prim.Native.Nat.{ℕ, zero, suc, _+_, _-_, _<_, _≤_, min}
+use mathlib.Core.Path.{_≡_, refl, sym, _∙_}
+use mathlib.Core.Logic.{_⊎_, ⊎-elim}
+use mathlib.Core.Bool.{Bool, true, cond, _&&_, _||_}
+use mathlib.Core.List.{List, [], _∷_}
+use native.Mathlib.Omega.{arith}
+use native.Mathlib.Decide.{ℕ-discrete, decLt}
+use borrow.Author.Tests.{lt-ltb, le-ltb, eq-eqb, ne-eqb}
+use lib.Dec.{T, ltb, leb, eqb, leb→le, eqb→eq, leb·suc-suc}
+use lib.ListN.{length}
+use Rattle.memory.specs.Meaning.Orders.{tableOrder, earlier}
+use Rattle.memory.specs.Meaning.Refusals.{earlierNumber}
+use Rattle.memory.specs.Working.Lowest.{placeIn}
+use Rattle.memory.proofs.Computed.{every-at, and-left, and-right, or-split, or-right}
+
+-- a test that computes on the order: no number but 19 is over 16
+abbrev known : List ℕ → Bool
+known [] = true
+known (k ∷ ks) = (leb k 16 || eqb k 19) && known ks
+
+-- the earlier of two numbers by their places
+earlier-place : (ks : List ℕ) (a b : ℕ) → earlier ks a b ≡ cond (ltb (placeIn ks b) (placeIn ks a)) b a
+unfolding earlier placeIn
+earlier-place [] a b = go (decLt b a)
+  where
+    go : Dec (b < a) → min a b ≡ cond (ltb b a) b a
+    go (yes h) = rw (lt-ltb b a h) (omega arith)
+    go (no h) = rw (le-ltb b a (omega arith)) (omega arith)
+earlier-place (k ∷ ks) a b = go (ℕ-discrete k a) (ℕ-discrete k b) (earlier-place ks a b)
+  where
+    go : Dec (k ≡ a) → Dec (k ≡ b) → earlier ks a b ≡ cond (ltb (placeIn ks b) (placeIn ks a)) b a → earlier (k ∷ ks) a b ≡ cond (ltb (placeIn (k ∷ ks) b) (placeIn (k ∷ ks) a)) b a
+    go (yes e) t next = rw (eq-eqb k a e, le-ltb (placeIn (k ∷ ks) b) 0 (omega arith))
+    go (no n) (yes e) next = rw (ne-eqb k a n, eq-eqb k b e, lt-ltb 0 (suc (placeIn ks a)) (omega arith))
+    go (no n) (no m) next = rw (ne-eqb k a n, ne-eqb k b m, leb·suc-suc (suc (placeIn ks b)) (placeIn ks a)) next
+
+pub earlier-first : (a b : ℕ) → 0 < a → 0 < b → placeIn tableOrder b < placeIn tableOrder a → b ≡ earlierNumber a b
+unfolding earlierNumber
+earlier-first zero b h l q = absurd (omega arith)
+earlier-first (suc a) zero h l q = absurd (omega arith)
+earlier-first (suc a) (suc b) h l q = sym (earlier-place tableOrder (suc a) (suc b) ∙ rw (lt-ltb (placeIn tableOrder (suc b)) (placeIn tableOrder (suc a)) q))
+
+pub earlier-second : (a b : ℕ) → 0 < a → 0 < b → placeIn tableOrder a ≤ placeIn tableOrder b → a ≡ earlierNumber a b
+unfolding earlierNumber
+earlier-second zero b h l q = absurd (omega arith)
+earlier-second (suc a) zero h l q = absurd (omega arith)
+earlier-second (suc a) (suc b) h l q = sym (earlier-place tableOrder (suc a) (suc b) ∙ rw (le-ltb (placeIn tableOrder (suc b)) (placeIn tableOrder (suc a)) q))
+
+-- the places of the numbers
+pub place-19 : (n : ℕ) → n ≡ 19 → 9 ≡ placeIn tableOrder n
+unfolding placeIn
+place-19 n e = rw e
+
+pub place-low : (n : ℕ) → 0 < n → n ≤ 9 → n - 1 ≡ placeIn tableOrder n
+unfolding placeIn
+place-low zero h l = absurd (omega arith)
+place-low (suc n) h l = omega (arith, eqb→eq (placeIn tableOrder (suc n)) n (every-at (λ i. eqb (placeIn tableOrder (suc i)) i) 9 n tt (omega arith)))
+
+pub place-high : (n : ℕ) → 9 < n → n ≤ 16 → n ≡ placeIn tableOrder n
+unfolding placeIn
+place-high n h l = sym (eqb→eq (placeIn tableOrder n) n (or-right (leb n 9) (eqb (placeIn tableOrder n) n) (every-at (λ i. leb i 9 || eqb (placeIn tableOrder i) i) 17 n tt (omega arith)) (λ t. omega (arith, leb→le n 9 t))))
+
+outside : (n : ℕ) (ks : List ℕ) → T (known ks) → 16 < n → (n ≡ 19 → ⊥) → length ks + n ≡ placeIn ks n
+unfolding placeIn
+outside n [] t h l = omega arith
+outside n (k ∷ ks) t h l = rw (ne-eqb k n (λ e. other e (or-split (leb k 16) (eqb k 19) (and-left (leb k 16 || eqb k 19) (known ks) t)))) (omega (arith, outside n ks (and-right (leb k 16 || eqb k 19) (known ks) t) h l))
+  where
+    other : k ≡ n → T (leb k 16) ⊎ T (eqb k 19) → ⊥
+    other e s = ⊎-elim (λ a. omega (arith, leb→le k 16 a)) (λ a. l (sym e ∙ eqb→eq k 19 a)) s
+
+pub place-none : (n : ℕ) → 16 < n → (n ≡ 19 → ⊥) → 17 + n ≡ placeIn tableOrder n
+place-none n h l = outside n tableOrder tt h l
+
+-- 0 is none
+pub earlier-none : (a b : ℕ) → b ≡ 0 → earlierNumber a b ≡ a
+unfolding earlierNumber
+earlier-none zero b z = z
+earlier-none (suc a) zero z = refl
+earlier-none (suc a) (suc b) z = absurd (omega arith)
+
+pub none-earlier : (a b : ℕ) → a ≡ 0 → earlierNumber a b ≡ b
+unfolding earlierNumber
+none-earlier zero b z = refl
+none-earlier (suc a) b z = absurd (omega arith)

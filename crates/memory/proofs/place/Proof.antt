@@ -1,0 +1,22 @@
+-- `place`: the places computed.
+use mathlib.Core.Path.{_≡_}
+use native.Mathlib.Omega.{arith}
+use Rattle.memory.proofs.Places.{place-19, place-low, place-high, place-none}
+use borrow.Author.Needs.{needs}
+use Rattle.memory.proofs.place.Statement.{statement}
+use Rattle.memory.proofs.place.Tie as tie
+
+returns : tie.Need-returns
+returns c = place-19 _ (c .if1 .taken)
+
+returns-2 : tie.Need-returns-2
+returns-2 c = place-none _ (omega arith) (λ e. omega arith)
+
+returns-3 : tie.Need-returns-3
+returns-3 c = place-high _ (omega arith) (omega arith)
+
+returns-4 : tie.Need-returns-4
+returns-4 c = place-low _ (omega arith) (omega arith)
+
+pub place-spec : {M : Type 1} → statement M
+place-spec = tie.close (tie.spec returns (λ c. search needs) returns-2 returns-3 (λ c. search needs) returns-4)
