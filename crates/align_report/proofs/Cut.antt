@@ -1,10 +1,10 @@
 -- Input that is longer than any two images need not be read to its end: one byte more than two images have decides what is printed.
-use Prim.Native.Nat.{ℕ, _+_, _-_, _*_, _/_, _%_, _<_, _≤_}
+use Prim.Native.Nat.{ℕ, _+_, _/_, _%_, _<_, _≤_}
 use mathlib.Core.Path.{_≡_, sym, _∙_, ap, subst}
 use mathlib.Core.List.{List}
 use native.Mathlib.Omega.{arith}
 use native.Mathlib.Decide.{decLt}
-use lib.ListN.{length, getD, take, drop, length-drop}
+use lib.ListN.{length, getD, take, length-drop}
 use lib.Seq.{getD-take, getD-drop, take-take, take-all, length-take-le}
 use Rattle.numbers.specs.Meaning.Bits.{bitOf}
 use Rattle.memory.specs.Meaning.Refusals.{Free, First}

@@ -3,8 +3,6 @@ use Prim.Native.Nat.{ℕ}
 use mathlib.Core.Path.{_≡_, sym, _∙_, ap}
 use mathlib.Core.List.{List}
 use lib.ListN.{length, take}
-use Rattle.memory.specs.Meaning.Refusals.{Free, First}
-use Rattle.memory.specs.Meaning.Slices.{Zero}
 use Rattle.memory.proofs.Orders.{first-unique}
 use Rattle.memory.proofs.Slices.{zero-unique}
 use Rattle.netlist.specs.declared.Design.{Design}
@@ -19,11 +17,11 @@ use Rattle.compare.specs.Meaning.Comparing.{TablesLent}
 use Rattle.report.specs.declared.Facts.{Facts}
 use Rattle.report.specs.declared.Side.{Side}
 use Rattle.report.specs.declared.Side.the-variants.{Old, New, Both}
-use Rattle.report.specs.Meaning.Text.{refusalText, sameText, apartText}
+use Rattle.report.specs.Meaning.Text.{refusalText}
 use Rattle.streams.specs.declared.Input.{Input}
 use Rattle.streams.specs.Meaning.Output.{Sends}
 use Rattle.streams.proofs.Sending.{one-answer}
-use Rattle.align_report.specs.Meaning.Report.{OldRefused, OldAccepted, FactsOf, AnswersDesigns, Answers, Reports, ownTables, ownSlices, Prints, Outputs, unreadMessage}
+use Rattle.align_report.specs.Meaning.Report.{OldRefused, OldAccepted, FactsOf, AnswersDesigns, Answers, ownTables, ownSlices, Prints, Outputs, unreadMessage}
 
 facts-unique : (a b : Design) (f g : Facts) → FactsOf a b f → FactsOf a b g → f ≡ g
 facts-unique a b f g x y =

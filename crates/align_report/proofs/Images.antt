@@ -1,6 +1,6 @@
 -- The text on two images, from the promises of the calls that read them.
 use Prim.Native.Nat.{ℕ, _-_, _≤_}
-use mathlib.Core.Path.{_≡_, refl, sym, subst}
+use mathlib.Core.Path.{_≡_, subst}
 use mathlib.Core.List.{List}
 use native.Mathlib.Omega.{arith}
 use lib.ListN.{length, take, drop, length-drop}
@@ -8,19 +8,17 @@ use lib.Seq.{take-all}
 use Rattle.numbers.proofs.Order.{le-of-not-lt}
 use Rattle.memory.specs.Meaning.Refusals.{Free, First}
 use Rattle.memory.specs.Meaning.Slices.{Zero}
-use Rattle.netlist.specs.declared.Design.{Design}
 use Rattle.image.specs.declared.Length.{Length}
 use Rattle.image.specs.declared.Answer.{Answer}
 use Rattle.image.specs.declared.Reading.{Reading}
-use Rattle.format.specs.Meaning.Format.{bytesIn, decoded}
-use Rattle.format.specs.Meaning.Faults.{ImageFault, HeaderFault}
+use Rattle.format.specs.Meaning.Faults.{ImageFault}
 use Rattle.image.specs.Meaning.Reading.{Measures, ReadsImage, lengthReply, readReply, emptyDesign}
 use Rattle.machine.specs.Meaning.Lent.{Lent}
 use Rattle.compare.specs.Meaning.Comparing.{TablesLent}
 use Rattle.report.specs.declared.Side.the-variants.{Old, New}
 use Rattle.pieces.specs.Meaning.Pieces.{Printed}
 use Rattle.report.specs.Meaning.Text.{refusalText}
-use Rattle.align_report.specs.Meaning.Report.{OldRefused, OldAccepted, Answers, Reports, newBytes}
+use Rattle.align_report.specs.Meaning.Report.{OldRefused, OldAccepted, Answers, Reports}
 use Rattle.align_report.specs.Working.Tabled.{numberOf, ReportsDesigns}
 
 -- what stands behind the old image, as it is lent

@@ -1,6 +1,6 @@
 -- Demand 3, from the promise of `compare`; from the verdict's own promise over tables that hold the two designs; and so from the
 -- promises of the verdict and of the tabulating call, one call for both designs or one for each.
-use Prim.Native.Nat.{ℕ, _<_, min}
+use Prim.Native.Nat.{ℕ, min}
 use mathlib.Core.Path.{_≡_, refl}
 use mathlib.Core.List.{List}
 use native.Mathlib.Omega.{arith}

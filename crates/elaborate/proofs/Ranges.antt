@@ -1,14 +1,11 @@
 -- The design of a drawing whose read variables have drivers: its nets are in range.
 use Prim.Native.Nat.{ℕ, _+_, _-_, _<_, _≤_}
 use mathlib.Core.Path.{_≡_, _∙_, ap}
-use mathlib.Core.Bool.{cond}
 use native.Mathlib.Omega.{arith}
 use native.Mathlib.Decide.{decLt}
 use borrow.Author.Tests.{lt-ltb, le-ltb}
-use lib.Dec.{ltb}
 use lib.ListN.{length, getD, getD-replicate}
 use Rattle.numbers.proofs.Order.{le-of-not-lt}
-use Rattle.memory.specs.Meaning.Lists.{listOf}
 use Rattle.memory.proofs.Lists.{getD-listOf, entry-listOf}
 use Rattle.netlist.specs.declared.Cell.{Cell}
 use Rattle.limits.specs.Meaning.Limits.{mostLatches, mostOutputs, mostCells}

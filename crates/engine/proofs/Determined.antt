@@ -20,13 +20,13 @@ use Rattle.machine.proofs.Lent.{same-left}
 use Rattle.machine.proofs.Rounds.{round-unique}
 use Rattle.machine.specs.Working.Pairs.{pairAt}
 use Rattle.machine.proofs.Numbers.{pairAt-in, at-pair}
-use Rattle.machine.specs.Meaning.Faults.{TablesFault}
+use Rattle.machine.specs.Meaning.Faults.{TablesFault, StateFault}
 use Rattle.table_faults.proofs.Refusals.{fault-some}
 use Rattle.engine.specs.declared.MappedAlike.{MappedAlike}
 use Rattle.engine.specs.declared.MappedAlignable.{MappedAlignable}
 use Rattle.machine.specs.Meaning.Lent.{Lent, Left, Tidy, Listed}
 use Rattle.engine.specs.Meaning.Maps.{AlikeCount, alikeReply, alignableReply, roomOf, Marks, MarksAlike, MapsAlike, MapsAlignable}
-use Rattle.engine.specs.Meaning.Pairs.{foundReply, StateFault, PairFault, Finds, FindsTrace, FindsList}
+use Rattle.engine.specs.Meaning.Pairs.{foundReply, PairFault, Finds, FindsTrace, FindsList}
 
 -- no reason has a number below 11
 pub alike-not-zero : {t : Tables} {s : Lent} {e : Left} → MapsAlike t s e (MappedAlike.Refused 0) → ⊥

@@ -5,70 +5,22 @@ use mathlib.Core.List.{List}
 use native.Mathlib.Omega.{arith}
 use lib.ListN.{length, take}
 use lib.Seq.{length-take-le}
-use Rattle.numbers.proofs.Order.{not-lt, lt-of-not-le}
-use Rattle.memory.specs.Meaning.Refusals.{Free, First, FirstOrNone, Keeps}
+use Rattle.numbers.proofs.Order.{not-lt}
+use Rattle.memory.specs.Meaning.Refusals.{Free, First, Keeps}
 use Rattle.memory.specs.Meaning.Slices.{Zero}
 use Rattle.memory.specs.Working.Lowest.{Numbered, UpTo16}
-use Rattle.memory.proofs.Refusals.{some-number, lowest-number, no-number, first-early}
+use Rattle.memory.proofs.Refusals.{first-early}
 use Rattle.memory.proofs.Table.{up-to-16, first-of-lowest}
 use Rattle.machine.specs.declared.Found.{Found}
 use Rattle.machine.specs.declared.Pair.{Pair}
-use Rattle.machine.specs.Meaning.Tables.{Tables, In}
-use Rattle.machine.specs.Meaning.Faults.{TablesFault}
+use Rattle.machine.specs.Meaning.Tables.{Tables}
 use Rattle.seek.specs.Working.Steps.{Outcome, missing, short, steps}
-use Rattle.table_faults.proofs.Refusals.{fault-most, tables-among}
 use Rattle.machine.specs.Meaning.Lent.{Lent, Listed}
-use Rattle.engine.specs.Meaning.Pairs.{foundReply, StateFault, PairFault}
+use Rattle.machine.specs.Meaning.Faults.{StateFault}
+use Rattle.engine.specs.Meaning.Pairs.{foundReply, PairFault}
+use Rattle.opening.proofs.States.{state-most, state-among}
 
--- 11 to 14
-module _ {t : Tables} {room : ℕ} {p : Pair} where
-  pub state-most : {n : ℕ} → StateFault t room p n → n ≤ 14
-  state-most (StateFault.call f) = omega (arith, fault-most f)
-  state-most (StateFault.old-state h) = omega arith
-  state-most (StateFault.new-state h) = omega arith
-
-  pub state-among : UpTo16 (StateFault t room p)
-  state-among n (StateFault.call f) = tables-among n f
-  state-among n (StateFault.old-state h) = (omega arith, omega arith)
-  state-among n (StateFault.new-state h) = (omega arith, omega arith)
-
-  pub state-numbered : Numbered (StateFault t room p)
-  state-numbered = up-to-16 state-among
-
-  pub at-call : {n : ℕ} → (n ≡ 0 → ⊥) → FirstOrNone (TablesFault t room) n → FirstOrNone (StateFault t room p) n
-  at-call e l = some-number (first-early (TablesFault t room) (StateFault t room p) 14 state-numbered (λ m f. StateFault.call f) (λ m f h. go f h) (omega (arith, fault-most (l .some e .applies))) (l .some e))
-    where
-      go : {m : ℕ} → StateFault t room p m → m < 14 → TablesFault t room m
-      go (StateFault.call f) h = f
-      go (StateFault.old-state o) h = absurd (omega arith)
-      go (StateFault.new-state o) h = absurd (omega arith)
-
-  module _ (none : Free (TablesFault t room)) where
-    pub at-14 : StateFault t room p 14 → FirstOrNone (StateFault t room p) 14
-    at-14 s = lowest-number state-numbered (record { applies = s; lower = λ m h f. go f h })
-      where
-        go : {m : ℕ} → StateFault t room p m → m < 14 → ⊥
-        go (StateFault.call f) h = none _ f
-        go (StateFault.old-state o) h = omega arith
-        go (StateFault.new-state o) h = omega arith
-
-    pub at-none : In (t .sizes) p → FirstOrNone (StateFault t room p) 0
-    at-none i = no-number (λ m f. go f)
-      where
-        go : {m : ℕ} → StateFault t room p m → ⊥
-        go (StateFault.call f) = none _ f
-        go (StateFault.old-state o) = not-lt o (i .in-old)
-        go (StateFault.new-state o) = not-lt o (i .in-new)
-
-  -- a call to which none of them applies
-  module _ (free : Free (StateFault t room p)) where
-    pub free-call : Free (TablesFault t room)
-    free-call m f = free m (StateFault.call f)
-
-    pub free-in : In (t .sizes) p
-    free-in = record { in-old = lt-of-not-le (λ h. free 14 (StateFault.old-state h)); in-new = lt-of-not-le (λ h. free 14 (StateFault.new-state h)) }
-
--- 15 and 16 come after them
+-- 15 and 16 come after 11 to 14
 module _ (t : Tables) (s : Lent) (p : Pair) (None : Type 0) (Sought : List ℕ → Type 0) where
   abbrev Wrong : ℕ → Type 0
   Wrong n = PairFault t s p None Sought n

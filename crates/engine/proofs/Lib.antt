@@ -1,4 +1,3 @@
-pub mod Clearing
 pub mod Marks
 pub mod Finds
 pub mod Determined

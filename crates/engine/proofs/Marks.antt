@@ -13,7 +13,7 @@ use Rattle.machine.specs.declared.Sizes.{Sizes}
 use Rattle.machine.specs.Meaning.Tables.{Tables, pairs, number, at, In, Ok, Flag, holds, fails, oldMachine, newMachine, AlikeIn, AlignableIn, RoundIn}
 use Rattle.machine.specs.Working.Pairs.{DiffersIn}
 use Rattle.machine.proofs.Rounds.{first-unchanged}
-use Rattle.search.specs.Working.{Flagged}
+use Rattle.flags.specs.Working.{Flagged}
 use Rattle.machine.proofs.Numbers.{number-in}
 use Rattle.seek.specs.Working.Steps.{Good, MapFor, MapOf}
 use Rattle.seek.proofs.Sets.{flag-is, alike-of-zero, zero-of-alike}

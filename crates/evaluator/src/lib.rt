@@ -4,7 +4,7 @@
 // sets the rest.
 ghost use mathlib.Core.Path.{_≡_};
 ghost use Prim.Native.Nat.{ℕ, _+_, _^_, _<_, _≤_};
-ghost use lib.ListN.{length, getD};
+ghost use lib.ListN.{getD};
 ghost use Rattle.numbers.specs.Meaning.Bits.{horner};
 ghost use Rattle.memory.specs.Working.Filling.{Filled};
 ghost use Rattle.netlist.specs.Meaning.Gates.{firstOf, secondOf, truth};

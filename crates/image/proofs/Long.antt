@@ -1,6 +1,6 @@
 -- Bytes behind the largest image do not matter: of two byte lists that are longer and agree as far as it goes, the same number is the lowest.
 use Prim.Native.Nat.{ℕ, _+_, _*_, _<_, _≤_}
-use mathlib.Core.Path.{_≡_, sym, _∙_, ap₂}
+use mathlib.Core.Path.{_≡_, sym, _∙_}
 use mathlib.Core.Logic.{_⊎_, inl, inr, ⊎-elim}
 use mathlib.Core.List.{List}
 use native.Mathlib.Omega.{arith}
@@ -16,7 +16,7 @@ use Rattle.limits.specs.Meaning.Layout.{mostBytes, sizeBits, countBits, kindBit
 use Rattle.limits.specs.Working.Tails.{mostTails}
 use Rattle.limits.proofs.Sizes.{latches-le, bytes-le-most}
 use Rattle.reader.specs.Meaning.Fields.{bitAt, fieldAt}
-use Rattle.format.specs.Meaning.Format.{versionIn, inputsIn, latchesIn, outputsIn, countIn, netsIn, bitsIn, bytesIn, cellAt, kindIn, firstIn, secondIn, tailIn, latchIn, enableIn, clearIn, shownIn}
+use Rattle.format.specs.Meaning.Format.{versionIn, inputsIn, latchesIn, outputsIn, countIn, netsIn, bitsIn, bytesIn, cellAt, tailIn, latchIn, enableIn, clearIn, shownIn}
 use Rattle.format.specs.Meaning.Faults.{ImageFault, HeaderFault}
 use Rattle.format.specs.Working.Scanning.{WithinLimits}
 use Rattle.format.proofs.Refusals.{image-numbered, header-numbered}

@@ -3,7 +3,7 @@ use Prim.Native.Nat.{ℕ}
 use mathlib.Core.Path.{_≡_}
 use mathlib.Core.List.{List}
 use native.Mathlib.Omega.{arith}
-use Rattle.memory.specs.Meaning.Refusals.{FirstOrNone, answer, refusal}
+use Rattle.memory.specs.Meaning.Refusals.{FirstOrNone, answer}
 use Rattle.memory.proofs.Refusals.{first-early}
 use Rattle.image.specs.declared.Answer.the-variants.{Refused}
 use Rattle.image.specs.declared.Reading.{Reading}

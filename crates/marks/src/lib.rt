@@ -24,7 +24,7 @@ pub fn spread(
     let mut current = marks;
     let mut i = from;
     while i < to {
-        let v = search::byte_at(list, i);
+        let v = places::byte_at(list, i);
         let after = successors(next, states, vectors, v, current);
         current = after;
         i += 1;
@@ -48,7 +48,7 @@ fn successors(
     let mut s = 0;
     while s < states {
         if marks[s] {
-            let q = search::byte_at(next, search::place_of(s, v, states, vectors));
+            let q = places::byte_at(next, places::place_of(s, v, states, vectors));
             out[q] = true;
         }
         s += 1;

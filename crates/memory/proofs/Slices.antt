@@ -1,5 +1,5 @@
 -- Laws on lists of zeros.
-use Prim.Native.Nat.{ℕ, zero, _+_, _<_}
+use Prim.Native.Nat.{ℕ, _+_, _<_}
 use mathlib.Core.Path.{_≡_, sym, ap, _∙_}
 use mathlib.Core.List.{List}
 use native.Mathlib.Omega.{arith}

@@ -1,7 +1,7 @@
 -- The order: of numbers that rise in it the first that applies is the lowest that does.
 use Prim.Native.Nat.{ℕ, _<_}
 use mathlib.Core.Path.{sym, subst}
-use mathlib.Core.Logic.{_⊎_, ⊎-elim}
+use mathlib.Core.Logic.{⊎-elim}
 use mathlib.Core.Bool.{Bool, true, false, cond, _&&_}
 use mathlib.Core.List.{List, [], _∷_}
 use native.Mathlib.Omega.{arith}

@@ -2,12 +2,10 @@
 //
 // Of the cells that are not placed yet, the lowest that reads only sources and placed cells is placed next. Where none can be placed,
 // each of those left reads another of them, so some of them lie on a loop.
-mod faults;
-
 ghost use mathlib.Core.Path.{_≡_};
-ghost use mathlib.Core.Bool.{true, false, cond};
-ghost use Prim.Native.Nat.{ℕ, _+_, _-_, _<_, _≤_};
-ghost use lib.ListN.{length, getD};
+ghost use mathlib.Core.Bool.{true, false};
+ghost use Prim.Native.Nat.{_+_, _-_, _<_};
+ghost use lib.ListN.{getD};
 ghost use Rattle.memory.specs.Meaning.Refusals.{FirstOrNone};
 ghost use Rattle.memory.specs.Meaning.Slices.{Zero};
 ghost use Rattle.netlist.specs.Meaning.Gates.{firstOf, secondOf};
@@ -37,10 +35,10 @@ pub struct Plan {
 pub fn levelize(d: Design) -> Plan
     ensures { λ r. ⌜ Plans d (r .number) (r .cells) ⌝ }
 {
-    if faults::over_limit(d) {
+    if ranges::over_limit(d) {
         return no_plan(3);
     }
-    if faults::net_over(d) {
+    if ranges::net_over(d) {
         return no_plan(5);
     }
     let p = place(d);

@@ -3,7 +3,7 @@ ghost use Prim.Native.Nat.{_+_, _*_, _<_, _≤_};
 ghost use mathlib.Core.Path.{_≡_};
 ghost use lib.ListN.{length, take};
 ghost use Rattle.machine.specs.Meaning.Tables.{entry, bothTables};
-ghost use Rattle.search.specs.Working.{move};
+ghost use Rattle.places.specs.Working.{move};
 ghost use Rattle.report.specs.Working.Tracing.{shownIn};
 ghost use Rattle.pieces.specs.Working.Put.{Put};
 ghost use Rattle.report.specs.Working.Tracing.{Small};

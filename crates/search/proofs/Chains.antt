@@ -8,7 +8,9 @@ use borrow.Author.Count.{below-more}
 use lib.ListN.{length, getD, set, length-set, replicate, length-replicate, getD-replicate}
 use lib.Seq.{getD-set-same, getD-set-other}
 use Rattle.numbers.proofs.Order.{tri}
-use Rattle.search.specs.Working.{LastBelow, Inverts, On, here, there, Chain, Chains}
+use Rattle.search.specs.Working.{LastBelow, Inverts, On, here, there, Chain, Chains, Table}
+use Rattle.places.specs.Working.{Nexts}
+use Rattle.machine.specs.declared.Sizes.{Sizes}
 
 -- the walk along the chain from x₀ has come to x: what it has passed are the states from x on
 pub record Along (link : List ℕ) (n x₀ x : ℕ) : Type 0 where
@@ -119,3 +121,11 @@ module _ {next : List ℕ} {n m v : ℕ} where
 
     pub leads-on : {t b x s : ℕ} → b ≤ n → LastBelow next m v t b x → s < b → getD next (s * m + v) 0 ≡ t → On link s x
     leads-on {x = x} h y l e = leads-within x (omega arith) h y l e
+
+-- the tables of two designs, one by one
+module _ {z : Sizes} {next0 next1 : List ℕ} (w : Nexts z next0 next1) where
+  pub table-old : Table next0 (z .old) (z .vectors)
+  table-old = record { few = w .few .few-old; few-vectors = w .few .few-vectors; long = w .long-old; leads = w .next-old }
+
+  pub table-new : Table next1 (z .new) (z .vectors)
+  table-new = record { few = w .few .few-new; few-vectors = w .few .few-vectors; long = w .long-new; leads = w .next-new }

@@ -13,8 +13,9 @@ use Rattle.machine.specs.Meaning.Tables.{pairs, number, at, In}
 use Rattle.machine.specs.Working.Pairs.{pairAt}
 use Rattle.machine.proofs.Numbers.{same-pair, number-in, number-pair, pair-number, pairAt-in}
 use Rattle.numbers.proofs.Order.{tri}
-use Rattle.search.specs.Working.{move, Nexts, Listed, Inverts, On, Chain, Chains, Writable, Met, Numbers, Gathered, Before, Into, Unmarked, Rounded}
-use Rattle.search.proofs.Places.{closed}
+use Rattle.places.specs.Working.{move, Nexts}
+use Rattle.search.specs.Working.{Listed, Inverts, On, Chain, Writable, Met, Numbers, Gathered, Before, Into, Unmarked, Rounded}
+use Rattle.places.proofs.Places.{closed}
 use Rattle.search.proofs.Meets.{met-none, met-same, met-writable, met-back, met-forth, met-then}
 use Rattle.search.proofs.Chains.{Along, along-start, along-less, along-here, along-more, along-split, on-under, on-leads, leads-on}
 

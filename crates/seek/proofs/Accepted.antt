@@ -8,7 +8,7 @@ use Rattle.numbers.proofs.Order.{le-of-not-lt}
 use Rattle.memory.specs.Meaning.Refusals.{Free}
 use Rattle.machine.specs.Meaning.Tables.{Tables, pairs}
 use Rattle.machine.specs.Meaning.Faults.{OutOfRange, TooShort, LeadsOut, leads, TablesFault}
-use Rattle.search.specs.Working.{Few}
+use Rattle.places.specs.Working.{Few}
 use Rattle.seek.specs.Working.Steps.{Good}
 
 module _ {t : Tables} {room : ℕ} (none : Free (TablesFault t room)) where

@@ -1,20 +1,20 @@
 -- What the maps mean: alike and alignable pairs.
 use mathlib.Core.Path.{_≡_}
-use mathlib.Core.Logic.{_⊎_, ⊎-elim}
 use mathlib.Core.List.{List}
 use Prim.Native.Nat.{ℕ, _≤_}
 use native.Mathlib.Omega.{arith}
 use lib.ListN.{getD}
 use Rattle.machine.specs.declared.Pair.{Pair}
 use Rattle.machine.specs.declared.Sizes.{Sizes}
-use Rattle.numbers.proofs.Order.{zero-or}
 use Rattle.machine.specs.Meaning.Tables.{Tables, pairs, number, at, In, Ok, Flag, holds, fails, oldMachine, newMachine, AlikeIn}
 use Rattle.machine.specs.Working.Pairs.{DiffersIn, stepIn}
 use Rattle.machine.proofs.Lists.{complete-there, still-first-there}
 use Rattle.machine.proofs.Telling.{alike-at-zero, zero-at-alike}
-use Rattle.search.specs.Working.{Flagged, Ones, DiffersAt, Searched}
+use Rattle.flags.specs.Working.{Flagged, DiffersAt}
+use Rattle.places.specs.Working.{Ones}
+use Rattle.search.specs.Working.{Searched}
 use Rattle.machine.proofs.Numbers.{number-in, pair-number}
-use Rattle.search.proofs.Places.{closed}
+use Rattle.places.proofs.Places.{closed}
 use Rattle.seek.specs.Working.Steps.{Good, MapFor, MapOf}
 
 pub flag-one : {P : Type 0} {x : ℕ} → Flag P x → x ≤ 1

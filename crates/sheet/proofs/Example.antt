@@ -1,5 +1,5 @@
 -- The printed example holds: two pairs of P and Q are alike, all four are alignable, and the list is 0.
-use Prim.Native.Nat.{ℕ, zero, suc, _+_, _*_, _<_, _≤_}
+use Prim.Native.Nat.{ℕ, zero, suc, _+_, _*_, _<_}
 use mathlib.Core.Path.{_≡_, refl, sym, ap, subst, _∙_}
 use mathlib.Core.List.{List, [], _∷_, _++_}
 use native.Mathlib.Omega.{arith}
@@ -22,7 +22,6 @@ use Rattle.machine.specs.declared.Sizes.{Sizes}
 use Rattle.machine.specs.Meaning.Machine.{Alike, Alignable}
 use Rattle.machine.specs.Meaning.Tables.{pairs, In, Ok, Flag, holds, fails}
 use Rattle.machine.specs.Meaning.Counts.{Counts}
-use Rattle.machine.specs.Meaning.Verdict.{VerdictList}
 use Rattle.machine.specs.Meaning.Verdict as W
 use Rattle.machine.proofs.Verdict.{written-unique}
 use Rattle.verdict.specs.Meaning.Decision.{Decided}
@@ -32,7 +31,7 @@ use Rattle.compare.specs.Meaning.Comparing.{CompareFault}
 use Rattle.compare.specs.Meaning.Demand.{Enough}
 use Rattle.compare.proofs.Demand.{no-fault}
 use Rattle.report.proofs.Examples.{facts, same-example}
-use Rattle.align_report.specs.Meaning.Report.{oldBytes, newBytes, OldAccepted, FactsOf, AnswersDesigns, Answers, ownTables, ownSlices}
+use Rattle.align_report.specs.Meaning.Report.{oldBytes, newBytes, FactsOf, AnswersDesigns, Answers, ownTables, ownSlices}
 use Rattle.align_report.proofs.Determined.{closed}
 use Rattle.align_report.proofs.Refusals.{table-most, pairs-most}
 use Rattle.sheet.specs.Meaning.Sheet.{imageP, imageQ, FoundSame}

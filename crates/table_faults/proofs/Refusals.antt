@@ -1,5 +1,5 @@
 -- The lowest of 11, 12 and 13 that applies.
-use Prim.Native.Nat.{ℕ, _<_, _≤_}
+use Prim.Native.Nat.{ℕ, _≤_}
 use mathlib.Core.List.{List}
 use native.Mathlib.Omega.{arith}
 use Rattle.numbers.proofs.Order.{not-lt}

@@ -2,7 +2,7 @@
 use mathlib.Core.Path.{_≡_, refl, sym, ap, _∙_, subst}
 use mathlib.Core.Bool.{Bool, true, false}
 use mathlib.Core.List.{List, [], _∷_, _++_}
-use Prim.Native.Nat.{ℕ, _<_, _≤_, _+_, _-_}
+use Prim.Native.Nat.{ℕ, _<_, _≤_, _+_}
 use native.Mathlib.Omega.{arith}
 use lib.Dec.{eqb, eqb-refl, eqb→eq}
 use lib.ListN.{length, getD, take, replicate, length-append}
@@ -26,7 +26,7 @@ use Rattle.machine.proofs.Numbers.{same-pair, pair-number, number-in, pairAt-in
 use Rattle.machine.proofs.Finding.{Test}
 use Rattle.machine.proofs.Verdict.{may-in, rounds-extend}
 use Rattle.machine.proofs.Ending.{unaligned, unaligned-falls, rounds-exist}
-use Rattle.search.specs.Working.{LowestBelow}
+use Rattle.places.specs.Working.{LowestBelow}
 use Rattle.seek.specs.Working.Steps.{Outcome, short, steps}
 use Rattle.seek.proofs.Sets.{inside}
 use Rattle.seek.proofs.Lists.{listed, reached}

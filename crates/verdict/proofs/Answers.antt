@@ -21,7 +21,7 @@ use Rattle.machine.specs.Working.Pairs.{pairAt}
 use Rattle.machine.proofs.Numbers.{number-in, number-pair, pairAt-in, at-pair}
 use Rattle.machine.proofs.Pairs.{alike-alignable}
 use Rattle.machine.proofs.Verdict.{written-unique}
-use Rattle.search.specs.Working.{LowestBelow}
+use Rattle.places.specs.Working.{LowestBelow}
 use Rattle.seek.specs.Working.Steps.{Good, Outcome, missing, steps}
 use Rattle.seek.specs.Working.Steps as E
 use Rattle.seek.proofs.Sets.{inside}

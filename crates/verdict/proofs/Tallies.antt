@@ -1,5 +1,5 @@
 -- The counts of the two maps: how many entries are 0, and what they say of pairs.
-use mathlib.Core.Path.{_≡_, refl, ap, _∙_, subst}
+use mathlib.Core.Path.{_≡_, refl, ap}
 use mathlib.Core.Logic.{inl, inr}
 use mathlib.Core.List.{List, [], _∷_}
 use Prim.Native.Nat.{ℕ, _+_}
@@ -16,7 +16,6 @@ use Rattle.machine.specs.Meaning.Tables.{Tables, oldMachine, newMachine}
 use Rattle.machine.proofs.Counting.{counts-zeros, counts-others}
 use Rattle.seek.proofs.Sets.{alike-of-zero, zero-of-alike}
 use Rattle.verdict.specs.declared.Verdict.{Verdict}
-use Rattle.verdict.specs.declared.Judged.{Judged}
 use Rattle.verdict.specs.Meaning.Decision.{CountsPairs}
 use Rattle.verdict.specs.Working.Deciding.{Mapped, MapCounts, WithCounts}
 use Rattle.verdict.proofs.Verdict as verdict

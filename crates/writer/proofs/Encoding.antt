@@ -1,7 +1,7 @@
 -- Bytes with the bits of a design's image are its image.
 use Prim.Native.Nat.{ℕ, _+_, _-_, _*_, _/_, _%_, _^_, _<_, _≤_}
 use mathlib.Core.Path.{_≡_, sym, _∙_}
-use mathlib.Core.Logic.{_⊎_, ⊎-elim}
+use mathlib.Core.Logic.{⊎-elim}
 use mathlib.Core.List.{List}
 use native.Mathlib.Omega.{arith}
 use native.Mathlib.Nat.{zero-add}
@@ -20,10 +20,11 @@ use Rattle.format.specs.Meaning.Version.{versionOf}
 use Rattle.reader.proofs.Spelling.{field-of, field-lt}
 use Rattle.format.proofs.Gates.{kind-lt}
 use Rattle.format.proofs.Versions.{version-1, version-cases-of}
-use Rattle.writer.specs.Working.Packing.{joined, cellWord, wordBit}
-use Rattle.writer.proofs.Joining.{apart}
-use Rattle.writer.proofs.Heads.{version-le}
-use Rattle.writer.proofs.Tails.{netOf, latch-lt, at-latch, at-output, tail-lt}
+use Rattle.packing.specs.Working.{joined, cellWord}
+use Rattle.writer.specs.Working.Words.{wordBit}
+use Rattle.packing.proofs.Joining.{apart}
+use Rattle.packing.proofs.Heads.{version-le}
+use Rattle.packing.proofs.Tails.{netOf, latch-lt, at-latch, at-output, tail-lt}
 use Rattle.writer.proofs.Images.{headerOf, tailsOf, tailOf, imageBit, header-split, cell-split}
 
 -- bytes with these bits are an image

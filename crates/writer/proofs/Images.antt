@@ -18,8 +18,9 @@ use Rattle.reader.specs.Meaning.Fields.{bitAt, fieldAt}
 use Rattle.format.specs.Meaning.Format.{versionIn, inputsIn, latchesIn, outputsIn, countIn, kindIn, firstIn, secondIn, tailIn, latchIn, cellAt, bitsOf, Encodes}
 use Rattle.format.specs.Meaning.Version.{versionOf}
 use Rattle.reader.proofs.Spelling.{field-append, bit-of, bit-in, same-bytes}
-use Rattle.writer.specs.Working.Packing.{joined, headerWord, cellWord, tailNet, wordBit}
-use Rattle.writer.proofs.Tails.{netOf, Place, at-latch, at-output, place}
+use Rattle.packing.specs.Working.{joined, headerWord, cellWord, tailNet}
+use Rattle.writer.specs.Working.Words.{wordBit}
+use Rattle.packing.proofs.Tails.{netOf, Place, at-latch, at-output, place}
 
 -- the bits of byte k of the words that two lists hold
 abbrev pub bits : ℕ → List ℕ → List ℕ → ℕ → ℕ → ℕ → ℕ → ℕ

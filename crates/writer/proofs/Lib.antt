@@ -1,6 +1,3 @@
-pub mod Joining
-pub mod Heads
-pub mod Tails
 pub mod Images
 pub mod Encoding
 pub mod Packed

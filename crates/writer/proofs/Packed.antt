@@ -20,7 +20,8 @@ use Rattle.netlist.specs.Working.Sound.{Sound}
 use Rattle.reader.specs.Meaning.Fields.{bitAt}
 use Rattle.format.specs.Meaning.Format.{cellAt, bitsOf, bytesOf, Encodes}
 use Rattle.writer.specs.Meaning.Writing.{AreBytes, HoldsImage}
-use Rattle.writer.specs.Working.Packing.{cellWord, Packs, wordBit, wordByte}
+use Rattle.packing.specs.Working.{cellWord, Packs}
+use Rattle.writer.specs.Working.Words.{wordBit, wordByte}
 use Rattle.writer.proofs.Images.{word-lt, headerOf, tailsOf, tailOf, imageBit}
 use Rattle.writer.proofs.Encoding.{encodes}
 

@@ -1,2 +1,2 @@
 -- Definitions that only private contracts and proofs cite.
-pub mod Packing
+pub mod Words

@@ -1,6 +1,6 @@
 // The image of a design, byte by byte.
 ghost use mathlib.Core.Path.{_≡_};
-ghost use Prim.Native.Nat.{ℕ, _+_, _<_, _≤_};
+ghost use Prim.Native.Nat.{_+_, _<_, _≤_};
 ghost use lib.ListN.{length, getD};
 ghost use Rattle.numbers.specs.Meaning.Bits.{bitOf};
 ghost use Rattle.memory.specs.Meaning.Slices.{Zero};
@@ -10,7 +10,8 @@ ghost use Rattle.limits.specs.Meaning.Layout.{mostBytes};
 ghost use Rattle.limits.specs.Working.Tails.{mostTails};
 ghost use Rattle.format.specs.Meaning.Format.{bytesOf};
 ghost use Rattle.writer.specs.Meaning.Writing.{HoldsImage};
-ghost use Rattle.writer.specs.Working.Packing.{Heads, wordBit, wordByte};
+ghost use Rattle.packing.specs.Working.{Heads};
+ghost use Rattle.writer.specs.Working.Words.{wordBit, wordByte};
 use format::fields;
 use format::fields::Header;
 use format::version;
@@ -36,7 +37,7 @@ pub(crate) fn put(d: Design, h: Header, bytes: usize, image: &mut [u8])
     requires { ⌜ (Sound d) × (Heads d h) × (bytes ≡ bytesOf d) × (bytes ≤ length (now image)) × (Zero (now image)) ⌝ }
     ensures { λ _. ⌜ (length (now (image .exit)) ≡ length (now (image .entry))) × (HoldsImage d (now (image .exit)) bytes) ⌝ }
 {
-    let words = crate::packing::words_of(d, h);
+    let words = packing::words_of(d, h);
     let cells = words.cells;
     let tail = words.tail;
     let count = d.count as usize;
@@ -96,7 +97,7 @@ fn bit_at(
         let o = i - behind;
         return digit(
             Image::NET_BITS,
-            crate::packing::wide(tail[o / Image::NET_BITS]),
+            packing::wide(tail[o / Image::NET_BITS]),
             o % Image::NET_BITS,
         );
     }

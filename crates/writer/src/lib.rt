@@ -1,6 +1,5 @@
 // Writing the netlist image of a design.
 mod layout;
-mod packing;
 
 ghost use lib.ListN.{length};
 ghost use Rattle.writer.specs.Meaning.Writing.{Writes};

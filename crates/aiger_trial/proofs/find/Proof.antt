@@ -1,6 +1,5 @@
 -- `find`: a turn a byte.
 use Prim.Native.Nat.{_≤_, _-_}
-use native.Mathlib.Omega.{arith}
 use borrow.Author.Needs.{needs}
 use lib.ListN.{length}
 use Rattle.aiger_trial.proofs.find.Statement.{statement}

@@ -3,7 +3,7 @@
 --   DrawnAs t d     the text t is accepted, and d is the design that it draws
 --   design ..       a design of so many inputs, with the gates, the nets read by flip-flops and the nets shown; blank beyond
 --   Drawings        what the definitions say of these texts
-use Prim.Native.Nat.{ℕ, _-_}
+use Prim.Native.Nat.{ℕ}
 use Prim.Native.String.{String}
 use mathlib.Core.Path.{_≡_}
 use mathlib.Core.List.{List, [], _∷_}

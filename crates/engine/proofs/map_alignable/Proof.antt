@@ -1,5 +1,5 @@
 -- `map_alignable`: turned away with cleared slices, or what `mark_alignable` leaves.
-use Rattle.engine.proofs.Clearing.{tidy-of}
+use Rattle.opening.proofs.Clearing.{tidy-of}
 use borrow.Author.Needs.{needs}
 use Rattle.engine.proofs.map_alignable.Statement.{statement}
 use Rattle.engine.proofs.map_alignable.Tie as tie

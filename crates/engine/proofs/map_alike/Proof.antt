@@ -1,5 +1,5 @@
 -- `map_alike`: turned away with cleared slices, or what `mark_alike` leaves.
-use Rattle.engine.proofs.Clearing.{tidy-of}
+use Rattle.opening.proofs.Clearing.{tidy-of}
 use borrow.Author.Needs.{needs}
 use Rattle.engine.proofs.map_alike.Statement.{statement}
 use Rattle.engine.proofs.map_alike.Tie as tie

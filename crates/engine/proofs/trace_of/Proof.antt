@@ -2,8 +2,9 @@
 use native.Mathlib.Omega.{arith}
 use Rattle.machine.proofs.Pick.{picked-unique}
 use Rattle.seek.proofs.Accepted.{good, room-enough}
-use Rattle.engine.proofs.Clearing.{tidy-of}
-use Rattle.engine.proofs.Finds.{lowest-state, free-call, free-in, keeps-outcome}
+use Rattle.opening.proofs.Clearing.{tidy-of}
+use Rattle.opening.proofs.States.{free-call, free-in}
+use Rattle.engine.proofs.Finds.{lowest-state, keeps-outcome}
 use borrow.Author.Needs.{needs}
 use Rattle.engine.proofs.trace_of.Statement.{statement}
 use Rattle.engine.proofs.trace_of.Tie as tie

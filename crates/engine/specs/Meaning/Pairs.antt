@@ -1,29 +1,22 @@
 -- The trace or list of one pair: what `trace_of` and `list_of` promise.
 --   foundReply                 the number and the value of each case of the answer: how many steps there are
---   StateFault t room p n     number n applies to a call for the pair p, whatever it seeks
 --   PairFault t s p N S n      number n applies to a call for the pair p that seeks the list with S, of which there is none where N
 --   Finds t s p N S e r        such a call of the tables t: slices of lengths s are left as e, and r is the answer
 --   FindsTrace, FindsList      `trace_of` and `list_of`
 use mathlib.Core.List.{List}
-use Prim.Native.Nat.{ℕ, _<_, _≤_, min}
-use lib.ListN.{length, take}
+use Prim.Native.Nat.{ℕ, _<_, min}
+use lib.ListN.{length}
 use Rattle.memory.specs.Meaning.Refusals.{Reply, answer, refusal, Keeps}
 use Rattle.memory.specs.Meaning.Slices.{Zero}
 use Rattle.machine.specs.declared.Found.{Found}
 use Rattle.machine.specs.declared.Pair.{Pair}
 use Rattle.machine.specs.Meaning.Tables.{Tables, AlikeIn, AlignableIn, TraceIn, ListIn}
-use Rattle.machine.specs.Meaning.Faults.{TablesFault}
+use Rattle.machine.specs.Meaning.Faults.{StateFault}
 use Rattle.machine.specs.Meaning.Lent.{Lent, Left, Tidy, Listed}
 
 abbrev pub foundReply : Found → Reply ℕ
 foundReply (Found.Steps n) = answer n
 foundReply (Found.Refused n) = refusal n
-
--- "14 a state .. not below its count", besides 11, 12 and 13
-pub data StateFault (t : Tables) (room : ℕ) (p : Pair) : ℕ → Type 0 where
-  call : {n : ℕ} → TablesFault t room n → StateFault t room p n
-  old-state : t .sizes .old ≤ p .old → StateFault t room p 14
-  new-state : t .sizes .new ≤ p .new → StateFault t room p 14
 
 -- "15 a trace of an alike pair, or a list of a pair that isn't alignable", "16 list slice shorter than the answer"
 pub data PairFault (t : Tables) (s : Lent) (p : Pair) (None : Type 0) (Sought : List ℕ → Type 0) : ℕ → Type 0 where

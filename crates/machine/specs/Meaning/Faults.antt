@@ -1,13 +1,15 @@
--- Who is turned away by the tables and the slices that a call is lent.
---   OutOfRange z         11
---   TooShort t room      12
---   LeadsOut s v next    13, of the table next of s states and v vectors
---   TablesFault t room n number n of document 01's table applies to a call that is lent the tables t; of the slices with one entry a
---                        pair (marks and scratch) the shortest has room entries
+-- Who is turned away by the tables and the slices that a call is lent, and by the pair that it is asked about.
+--   OutOfRange z           11
+--   TooShort t room        12
+--   LeadsOut s v next      13, of the table next of s states and v vectors
+--   TablesFault t room n   number n of document 01's table applies to a call that is lent the tables t; of the slices with one entry a
+--                          pair (marks and scratch) the shortest has room entries
+--   StateFault t room p n  the same, and 14, of a call for the pair p, whatever it seeks
 use mathlib.Core.Path.{_≡_}
 use mathlib.Core.List.{List}
 use Prim.Native.Nat.{ℕ, _<_, _≤_, _*_}
 use lib.ListN.{length, getD}
+use Rattle.machine.specs.declared.Pair.{Pair}
 use Rattle.machine.specs.declared.Sizes.{Sizes}
 use Rattle.machine.specs.Meaning.Tables.{Tables, pairs}
 
@@ -38,3 +40,9 @@ pub data TablesFault (t : Tables) (room : ℕ) : ℕ → Type 0 where
   short : TooShort t room → TablesFault t room 12
   old-leads : LeadsOut (t .sizes .old) (t .sizes .vectors) (t .old-next) → TablesFault t room 13
   new-leads : LeadsOut (t .sizes .new) (t .sizes .vectors) (t .new-next) → TablesFault t room 13
+
+-- "14 a state .. not below its count", besides these three
+pub data StateFault (t : Tables) (room : ℕ) (p : Pair) : ℕ → Type 0 where
+  call : {n : ℕ} → TablesFault t room n → StateFault t room p n
+  old-state : t .sizes .old ≤ p .old → StateFault t room p 14
+  new-state : t .sizes .new ≤ p .new → StateFault t room p 14

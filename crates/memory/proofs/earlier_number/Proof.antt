@@ -1,5 +1,5 @@
 -- `earlier_number`: by the cases that the code tests, and by places.
-use mathlib.Core.Path.{_≡_, sym}
+use mathlib.Core.Path.{sym}
 use native.Mathlib.Omega.{arith}
 use Rattle.memory.proofs.Places.{earlier-first, earlier-second, earlier-none, none-earlier}
 use borrow.Author.Needs.{needs}

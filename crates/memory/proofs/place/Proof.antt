@@ -1,5 +1,4 @@
 -- `place`: the places computed.
-use mathlib.Core.Path.{_≡_}
 use native.Mathlib.Omega.{arith}
 use Rattle.memory.proofs.Places.{place-19, place-low, place-high, place-none}
 use borrow.Author.Needs.{needs}

@@ -3,7 +3,7 @@
 -- shown to have the type at `erased`: what the struct owns does not say the lifetime's name. The numbers are read off the readers at
 -- the end, where their machine values are written out.
 use mathlib.Core.Path.{_≡_, refl, ap}
-use Prim.Native.Nat.{ℕ, _+_, _≤_, _<_, _^_}
+use Prim.Native.Nat.{ℕ, _≤_, _<_, _^_}
 use mathlib.Core.List.{List, [], _∷_}
 use native.Mathlib.Omega.{arith}
 use lib.ListN.{length}
@@ -42,7 +42,6 @@ use denote.Triple.Table.{entered, cited}
 use denote.Triple.Walked.{says, needs, Stays, stay-none, stay-none-slice, walkOf, goes-none, goes-none-slice, Walks, ends-at, walked, walk-meets}
 use denote.Exit.{yes}
 use denote.Triple.Clauses.{ensured, lasts}
-use Rattle.reader.specs.Meaning.Fields.{fieldAt}
 use Rattle.reader.specs.Working.Taking.{opened, taken, runAt}
 use Rattle.reader.specs.declared.BitReader.{BitReader}
 use Rattle.reader.proofs.Numbers as R

@@ -3,7 +3,8 @@ use Prim.Native.Nat.{_≤_, _-_}
 use native.Mathlib.Omega.{arith}
 use native.Mathlib.Nat.{le-antisymm}
 use Rattle.search.specs.Working.{Listed, Met, Into}
-use Rattle.search.proofs.Places.{few-pairs, table-old, table-new}
+use Rattle.places.proofs.Places.{few-pairs}
+use Rattle.search.proofs.Chains.{table-old, table-new}
 use Rattle.search.proofs.Meets.{met-few, met-writable}
 use Rattle.search.proofs.Chains.{inverts-chains}
 use Rattle.search.proofs.Walks.{into-start, into-more}

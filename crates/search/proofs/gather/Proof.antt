@@ -4,7 +4,7 @@ use Prim.Native.Nat.{_-_}
 use native.Mathlib.Omega.{arith}
 use Rattle.machine.proofs.Numbers.{second-pos, pairAt-in}
 use borrow.Author.Needs.{needs}
-use Rattle.search.proofs.Places.{few-pairs}
+use Rattle.places.proofs.Places.{few-pairs}
 use Rattle.search.proofs.Gathers.{row-beyond, row-within, Gathering, gathering-start, gathering-pass, gathering-take, gathering-row, gathering-end}
 use Rattle.search.proofs.gather.Statement.{statement}
 use Rattle.search.proofs.gather.Tie as tie

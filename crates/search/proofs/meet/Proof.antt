@@ -1,7 +1,7 @@
 -- `meet`: a walk along the chain of old states; each is met with all new states of the other chain.
 use native.Mathlib.Omega.{arith}
 use Rattle.search.specs.Working.{On}
-use Rattle.search.proofs.Places.{few-pairs}
+use Rattle.places.proofs.Places.{few-pairs}
 use Rattle.search.proofs.Meets.{met-few, met-writable}
 use Rattle.search.proofs.Chains.{along-inside, along-less}
 use Rattle.search.proofs.Walks.{Passed, passed-start, rows-more, passed-end}

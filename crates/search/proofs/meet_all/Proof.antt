@@ -4,7 +4,7 @@ use native.Mathlib.Omega.{arith}
 use native.Mathlib.Nat.{le-antisymm}
 use Rattle.machine.proofs.Numbers.{second-pos, pairAt-in}
 use Rattle.search.specs.Working.{Met, Before}
-use Rattle.search.proofs.Places.{few-pairs}
+use Rattle.places.proofs.Places.{few-pairs}
 use Rattle.search.proofs.Meets.{met-few, met-writable}
 use Rattle.search.proofs.Walks.{before-start, before-more}
 use Rattle.search.proofs.meet_all.Statement.{statement}

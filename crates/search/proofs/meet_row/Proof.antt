@@ -5,7 +5,7 @@ use native.Mathlib.Omega.{arith}
 use native.Mathlib.Nat.{add-zero}
 use borrow.Author.Needs.{needs}
 use Rattle.search.specs.Working.{On}
-use Rattle.search.proofs.Places.{few-pairs}
+use Rattle.places.proofs.Places.{few-pairs}
 use Rattle.search.proofs.Meets.{met-one, met-kept, met-few, met-writable}
 use Rattle.search.proofs.Chains.{along-inside, along-less}
 use Rattle.search.proofs.Walks.{Passed, passed-start, row-more, passed-end}

@@ -18,7 +18,7 @@ use Rattle.machine.specs.Meaning.Pick.{IsPicked}
 use Rattle.machine.specs.Meaning.Tables.{Tables, at, In, Ok, AlikeIn}
 use Rattle.machine.specs.Working.Maps.{Complete, FirstStill}
 use Rattle.machine.specs.Working.Pairs.{DiffersIn, stepIn}
-use Rattle.search.specs.Working.{move, Nexts, Outs, Ones}
+use Rattle.places.specs.Working.{move, Nexts, Outs, Ones}
 
 pub record Good (t : Tables) : Type 0 where
   pub nexts : Nexts (t .sizes) (t .old-next) (t .new-next)

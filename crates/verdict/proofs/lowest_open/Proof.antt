@@ -4,8 +4,8 @@ use mathlib.Core.Path.{sym, _∙_}
 use Prim.Native.Nat.{_-_}
 use mathlib.Core.Logic.{⊎-elim}
 use mathlib.Core.Bool.{false≢true}
-use Rattle.search.specs.Working.{NoneBelow}
-use Rattle.search.proofs.Places.{scan-start, scan-more, scan-found, scan-none}
+use Rattle.places.specs.Working.{NoneBelow}
+use Rattle.places.proofs.Places.{scan-start, scan-more, scan-found, scan-none}
 use Rattle.machine.specs.Meaning.Tables.{pairs}
 use Rattle.verdict.specs.Working.Deciding.{OpenAt}
 use Rattle.verdict.proofs.lowest_open.Statement.{statement}

@@ -2,7 +2,7 @@
 use mathlib.Core.Path.{_∙_}
 use native.Mathlib.Omega.{arith}
 use Rattle.netlist.proofs.Numbers.{sound-of}
-use Rattle.writer.proofs.Heads.{heads-bytes}
+use Rattle.packing.proofs.Heads.{heads-bytes}
 use Rattle.writer.proofs.Refusals.{own-number, twelve, none}
 use borrow.Author.Needs.{needs}
 use Rattle.writer.proofs.write.Statement.{statement}

@@ -1,5 +1,4 @@
 -- `nets_each`: by the version.
-use mathlib.Core.Path.{_≡_}
 use borrow.Author.Tests.{ne-eqb}
 use Rattle.format.proofs.fields.nets_each.Statement.{statement}
 use Rattle.format.proofs.fields.nets_each.Tie as tie

@@ -1,5 +1,5 @@
 -- `tail`: the field at its place.
-use mathlib.Core.Path.{_∙_, ap}
+use mathlib.Core.Path.{ap}
 use Rattle.reader.specs.declared.Numbers.{Numbers}
 use borrow.Author.Needs.{needs}
 use Rattle.format.proofs.fields.tail.Statement.{statement}

@@ -1,5 +1,5 @@
 -- `tails`: at most three nets a flip-flop, and those of the outputs.
-use mathlib.Core.Path.{_≡_, refl}
+use mathlib.Core.Path.{refl}
 use native.Mathlib.Omega.{arith}
 use Rattle.limits.proofs.Sizes.{latches-le}
 use borrow.Author.Needs.{needs}

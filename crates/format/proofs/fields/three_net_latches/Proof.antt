@@ -1,5 +1,4 @@
 -- `three_net_latches`: by the version.
-use mathlib.Core.Path.{_≡_}
 use borrow.Author.Tests.{ne-eqb}
 use borrow.Author.Needs.{needs}
 use Rattle.format.proofs.fields.three_net_latches.Statement.{statement}

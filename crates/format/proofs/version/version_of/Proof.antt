@@ -1,5 +1,5 @@
 -- `version_of`: 1 where the test passes, else 2.
-use mathlib.Core.Path.{_≡_, sym, _∙_}
+use mathlib.Core.Path.{sym, _∙_}
 use borrow.Author.Needs.{needs}
 use Rattle.format.proofs.version.version_of.Statement.{statement}
 use Rattle.format.proofs.version.version_of.Tie as tie

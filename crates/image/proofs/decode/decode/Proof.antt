@@ -1,5 +1,5 @@
 -- `decode`: the design that is made of the entries in their places.
-use mathlib.Core.Path.{_≡_, refl}
+use mathlib.Core.Path.{refl}
 use native.Mathlib.Omega.{arith}
 use Rattle.memory.proofs.Filling.{all-same}
 use Rattle.limits.specs.Meaning.Limits.{mostLatches, mostOutputs}

@@ -2,7 +2,7 @@
 -- that is known of it is that it meets its contract. The slice goes into the result, with the place behind the field and its number.
 -- The struct is Copy: what it owns is had thrice. One copy is kept whole for the exit, of another what the slice owns goes to the
 -- callee, beside the lifetime's token, which comes back, and of the last it goes into the result.
-use mathlib.Core.Path.{_≡_, refl, sym, ap}
+use mathlib.Core.Path.{_≡_, refl, ap}
 use Prim.Native.Nat.{ℕ, _+_, _≤_, _<_, _^_}
 use native.Mathlib.Omega.{arith}
 use mathlib.Core.List.{[], _∷_}
@@ -29,7 +29,7 @@ use denote.RattleType.{RattleType, owns}
 use denote.Laws.{Is, shows}
 use denote.Plain.{uint-makes, uint-lawful, uint-vals, uint-tells}
 use denote.Builtin.{u8, u16, usize}
-use denote.Ref.{NamedLft, now}
+use denote.Ref.{now}
 use denote.Signature.{namedLft}
 use denote.Slice.{sliceVal, ShrSlice}
 use denote.Steps.{only, owned, peeks, heard, nothing}
@@ -46,7 +46,6 @@ use denote.Triple.Walked.{says, needs, Stays, stay-none, walkOf, goes-none, Walk
 use denote.Exit.{yes}
 use denote.Triple.Clauses.{ensured, lasts}
 use Rattle.reader.specs.Meaning.Fields.{fieldAt}
-use Rattle.reader.specs.Working.Taking.{taken}
 use Rattle.reader.specs.declared.BitReader.{BitReader}
 use Rattle.reader.proofs.BitReader as T
 use Rattle.reader.proofs.BitReader.Laws as T′

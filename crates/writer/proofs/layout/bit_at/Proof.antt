@@ -1,6 +1,6 @@
 -- `bit_at`: a bit of the header, of a cell, of a net behind them, or of the pad.
 use borrow.Author.Tests.{lt-ltb, le-ltb}
-use Rattle.writer.specs.Working.Packing.{wordBit}
+use Rattle.writer.specs.Working.Words.{wordBit}
 use borrow.Author.Needs.{needs}
 use Rattle.writer.proofs.layout.bit_at.Statement.{statement}
 use Rattle.writer.proofs.layout.bit_at.Tie as tie

@@ -8,8 +8,8 @@ use Rattle.memory.proofs.Filling.{filled-zero, filled-more}
 use Rattle.limits.proofs.Sizes.{tails-le-most, bytes-le-most}
 use Rattle.format.specs.Meaning.Format.{bytesOf}
 use Rattle.format.specs.Meaning.Version.{versionOf}
-use Rattle.writer.specs.Working.Packing.{wordByte}
-use Rattle.writer.proofs.Heads.{heads-tails}
+use Rattle.writer.specs.Working.Words.{wordByte}
+use Rattle.packing.proofs.Heads.{heads-tails}
 use Rattle.writer.proofs.Images.{tailsOf}
 use Rattle.writer.proofs.Packed.{holds-image}
 use borrow.Author.Needs.{needs}

@@ -1,2 +1,0 @@
--- Definitions that only private contracts and proofs cite.
-pub mod Clearing

@@ -1,0 +1,125 @@
+// Maps and marks that say 1 where something holds of a pair and 0 elsewhere: where some vector shows different outputs, where a map holds
+// 0, where it holds more. And which vector to take to show different outputs.
+ghost use mathlib.Core.Path.{_≡_};
+ghost use Prim.Native.Nat.{_<_, _≤_};
+ghost use lib.ListN.{length, getD};
+ghost use Rattle.machine.specs.Meaning.Tables.{pairs, In};
+ghost use Rattle.numbers.specs.Meaning.Count.{countOf};
+ghost use Rattle.memory.specs.Working.Tests.{Tells};
+ghost use Rattle.places.specs.Working.{Outs, LowestBelow, ChosenBelow};
+ghost use Rattle.flags.specs.Working.{Different, DiffersAt, Flagged};
+use machine::Pair;
+use machine::Prior;
+use machine::Sizes;
+
+// The map becomes 1 where some vector shows different outputs, and 0 elsewhere.
+pub fn differ(old_out: &[u8], new_out: &[u8], sizes: Sizes, map: &mut [u16])
+    requires { ⌜ Outs sizes (now «old_out») (now «new_out») ⌝ }
+    requires { ⌜ pairs sizes ≤ length (now map) ⌝ }
+    ensures { λ r. ⌜ Flagged (DiffersAt sizes (now («old_out» .entry)) (now («new_out» .entry))) (pairs sizes) (now (map .entry)) (now (map .exit)) ⌝ }
+{
+    let end = places::total(sizes);
+    let mut i = 0;
+    while i < end {
+        let p = places::pair_at(sizes, i);
+        let v = different_vector(old_out, new_out, sizes, p);
+        if v < sizes.vectors {
+            map[i] = 1;
+        } else {
+            map[i] = 0;
+        }
+        i += 1;
+    }
+}
+
+// The vector to take to show different outputs at the pair p: that of the step before, where it shows them, and else the lowest; or the
+// number of vectors.
+pub fn chosen_different(
+    old_out: &[u8],
+    new_out: &[u8],
+    sizes: Sizes,
+    p: Pair,
+    prior: Prior,
+) -> usize
+    requires { ⌜ Outs sizes (now «old_out») (now «new_out») ⌝ }
+    requires { ⌜ In sizes p ⌝ }
+    ensures { λ r. ⌜ ChosenBelow prior (Different sizes (now («old_out» .entry)) (now («new_out» .entry)) p) (sizes .vectors) r ⌝ }
+{
+    if let Prior::Vector(u) = prior {
+        if u < sizes.vectors {
+            if shows(old_out, new_out, sizes, p, u) {
+                return u;
+            }
+        }
+    }
+    different_vector(old_out, new_out, sizes, p)
+}
+
+// The first n entries of reach become 1 where depth holds 0, and 0 elsewhere.
+pub fn aligned_start(depth: &[u16], n: usize, reach: &mut [u16])
+    requires { ⌜ n ≤ length (now depth) ⌝ }
+    requires { ⌜ n ≤ length (now reach) ⌝ }
+    ensures { λ r. ⌜ Flagged (λ q. getD (now (depth .entry)) q 0 ≡ 0) n (now (reach .entry)) (now (reach .exit)) ⌝ }
+{
+    let mut i = 0;
+    while i < n {
+        if depth[i] == 0 {
+            reach[i] = 1;
+        } else {
+            reach[i] = 0;
+        }
+        i += 1;
+    }
+}
+
+// The first n marks become 1 where the map holds more than 0, and 0 elsewhere: how many become 1.
+pub fn mark_positive(map: &[u16], n: usize, mark: &mut [u8]) -> usize
+    requires { ⌜ n ≤ length (now map) ⌝ }
+    requires { ⌜ n ≤ length (now mark) ⌝ }
+    requires { ⌜ n ≤ 16384 ⌝ }
+    ensures { λ r. ⌜ Flagged (λ q. 0 < getD (now (map .entry)) q 0) n (now (mark .entry)) (now (mark .exit)) ⌝ }
+    ensures { λ r. ⌜ r ≡ countOf 1 (now (mark .exit)) n ⌝ }
+{
+    let mut count = 0;
+    let mut i = 0;
+    while i < n {
+        if map[i] == 0 {
+            mark[i] = 0;
+        } else {
+            mark[i] = 1;
+            count += 1;
+        }
+        i += 1;
+    }
+    count
+}
+
+// The lowest vector that shows different outputs at the pair p, or the number of vectors.
+fn different_vector(old_out: &[u8], new_out: &[u8], sizes: Sizes, p: Pair) -> usize
+    requires { ⌜ Outs sizes (now «old_out») (now «new_out») ⌝ }
+    requires { ⌜ In sizes p ⌝ }
+    ensures { λ r. ⌜ LowestBelow (Different sizes (now («old_out» .entry)) (now («new_out» .entry)) p) (sizes .vectors) r ⌝ }
+{
+    let mut vector = 0;
+    while vector < sizes.vectors {
+        if shows(old_out, new_out, sizes, p, vector) {
+            return vector;
+        }
+        vector += 1;
+    }
+    vector
+}
+
+// Whether the vector v shows different outputs at the pair p.
+fn shows(old_out: &[u8], new_out: &[u8], sizes: Sizes, p: Pair, v: usize) -> bool
+    requires { ⌜ Outs sizes (now «old_out») (now «new_out») ⌝ }
+    requires { ⌜ In sizes p ⌝ }
+    requires { ⌜ v < sizes .vectors ⌝ }
+    ensures { λ r. ⌜ Tells r (Different sizes (now («old_out» .entry)) (now («new_out» .entry)) p v) ⌝ }
+{
+    let i = places::place_of(p.old, v, sizes.old, sizes.vectors);
+    let j = places::place_of(p.new, v, sizes.new, sizes.vectors);
+    let a = places::byte_at(old_out, i);
+    let b = places::byte_at(new_out, j);
+    a != b
+}

@@ -1,0 +1,21 @@
+-- `pair_fault`: the lowest number, in the order of the tests.
+use Rattle.machine.specs.Meaning.Faults.{StateFault}
+use Rattle.opening.proofs.States.{at-call, at-14, at-none}
+use borrow.Author.Needs.{needs}
+use Rattle.opening.proofs.pair_fault.Statement.{statement}
+use Rattle.opening.proofs.pair_fault.Tie as tie
+
+returns : tie.Need-returns
+returns c = at-call (c .if1 .taken) (c .before .call-fault .ensures)
+
+returns-2 : tie.Need-returns-2
+returns-2 c = at-14 (c .before .before .before .before .call-fault .ensures .none (c .before .before .before .if1 .left)) (StateFault.old-state (c .if2 .taken))
+
+returns-3 : tie.Need-returns-3
+returns-3 c = at-14 (c .before .before .before .before .before .before .before .call-fault .ensures .none (c .before .before .before .before .before .before .if1 .left)) (StateFault.new-state (c .if3 .taken))
+
+returns-4 : tie.Need-returns-4
+returns-4 c = at-none (c .before .before .before .before .before .before .before .call-fault .ensures .none (c .before .before .before .before .before .before .if1 .left)) (record { in-old = c .before .before .before .if2 .left; in-new = c .if3 .left })
+
+pub pair-fault-spec : {M : Type 1} → statement M
+pair-fault-spec = tie.close (tie.spec (λ c κs. search needs) returns returns-2 returns-3 returns-4)

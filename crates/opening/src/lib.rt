@@ -1,0 +1,85 @@
+// What a map, and a call for one pair, does first: it takes the lengths of the slices that it is lent, looks for what turns it away, and
+// clears them.
+ghost use Prim.Native.Nat.{min};
+ghost use lib.ListN.{length};
+ghost use Rattle.memory.specs.Meaning.Refusals.{FirstOrNone};
+ghost use Rattle.machine.specs.Meaning.Tables.{bothTables};
+ghost use Rattle.machine.specs.Meaning.Faults.{TablesFault, StateFault};
+ghost use Rattle.machine.specs.Meaning.Lent.{lentOf, leftOf};
+ghost use Rattle.opening.specs.Working.{Emptied};
+use machine::Pair;
+use machine::Sizes;
+
+// Begins a map: the lowest number that turns it away, or 0, and every lent slice cleared.
+pub fn begin_map(
+    old_next: &[u8],
+    old_out: &[u8],
+    new_next: &[u8],
+    new_out: &[u8],
+    sizes: Sizes,
+    depth: &mut [u16],
+    reach: &mut [u16],
+    mark: &mut [u8],
+) -> u8
+    ensures { λ r. ⌜ FirstOrNone (TablesFault (bothTables sizes (now («old_next» .entry)) (now («old_out» .entry)) (now («new_next» .entry)) (now («new_out» .entry))) (min (length (now (mark .entry))) (min (length (now (depth .entry))) (length (now (reach .entry)))))) r ⌝ }
+    ensures { λ r. ⌜ Emptied (lentOf (length (now (depth .entry))) (length (now (reach .entry))) (length (now (mark .entry)))) (leftOf (now (depth .exit)) (now (reach .exit)) (now (mark .exit))) ⌝ }
+{
+    let room = memory::shorter(mark.len(), memory::shorter(depth.len(), reach.len()));
+    let n = table_faults::call_fault(old_next, old_out, new_next, new_out, sizes, room);
+    clear_lent(depth, reach, mark);
+    n
+}
+
+// Begins a call for a pair: the lowest of 11 to 14 that turns it away, or 0, and every lent slice cleared.
+pub fn begin_pair(
+    old_next: &[u8],
+    old_out: &[u8],
+    new_next: &[u8],
+    new_out: &[u8],
+    sizes: Sizes,
+    pair: Pair,
+    depth: &mut [u16],
+    reach: &mut [u16],
+    list: &mut [u8],
+) -> u8
+    ensures { λ r. ⌜ FirstOrNone (StateFault (bothTables sizes (now («old_next» .entry)) (now («old_out» .entry)) (now («new_next» .entry)) (now («new_out» .entry))) (min (length (now (depth .entry))) (length (now (reach .entry)))) pair) r ⌝ }
+    ensures { λ r. ⌜ Emptied (lentOf (length (now (depth .entry))) (length (now (reach .entry))) (length (now (list .entry)))) (leftOf (now (depth .exit)) (now (reach .exit)) (now (list .exit))) ⌝ }
+{
+    let room = memory::shorter(depth.len(), reach.len());
+    let n = pair_fault(old_next, old_out, new_next, new_out, sizes, pair, room);
+    clear_lent(depth, reach, list);
+    n
+}
+
+// Every lent slice becomes 0 throughout.
+fn clear_lent(depth: &mut [u16], reach: &mut [u16], written: &mut [u8])
+    ensures { λ _. ⌜ Emptied (lentOf (length (now (depth .entry))) (length (now (reach .entry))) (length (now (written .entry)))) (leftOf (now (depth .exit)) (now (reach .exit)) (now (written .exit))) ⌝ }
+{
+    memory::clear_scratch(depth, reach);
+    memory::clear_bytes(written);
+}
+
+// The lowest of 11 to 14 that applies to a call for a pair, or 0.
+fn pair_fault(
+    old_next: &[u8],
+    old_out: &[u8],
+    new_next: &[u8],
+    new_out: &[u8],
+    sizes: Sizes,
+    pair: Pair,
+    room: usize,
+) -> u8
+    ensures { λ r. ⌜ FirstOrNone (StateFault (bothTables sizes (now («old_next» .entry)) (now («old_out» .entry)) (now («new_next» .entry)) (now («new_out» .entry))) room pair) r ⌝ }
+{
+    let n = table_faults::call_fault(old_next, old_out, new_next, new_out, sizes, room);
+    if n != 0 {
+        return n;
+    }
+    if pair.old >= sizes.old {
+        return 14;
+    }
+    if pair.new >= sizes.new {
+        return 14;
+    }
+    0
+}

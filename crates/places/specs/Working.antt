@@ -1,0 +1,68 @@
+-- Tables and maps that are long enough, places in them, and numbers to take. z are the sizes, next0 and next1 the tables of next states,
+-- out0 and out1 those of outputs, d a map.
+--   move z next0 next1 p v   the pair after one step of both designs
+--   Few z                    the sizes are within the engine's limits
+--   Nexts, Outs, Walk        tables and map are long enough, and tables lead to states
+--   PlaceOf s v n m r        r is the place of column v in row s of a table of n rows of m columns
+--   LowestBelow P n v        v is the lowest number below n that has P, or n where none has
+--   ChosenBelow s P n v      v is the number to take of those below n that have P, where s comes before, or n where none has
+--   NoneBelow P n v          none of the numbers below v, which is at most n, has P
+--   Ones z d                 the set of the pairs for which the map holds 1
+--   Ready .. d               the map d is right for the set of its ones
+use mathlib.Core.Path.{_≡_}
+use mathlib.Core.List.{List}
+use Prim.Native.Nat.{ℕ, _<_, _≤_, _+_, _*_}
+use lib.ListN.{length, getD}
+use Rattle.machine.specs.declared.Pair.{Pair}
+use Rattle.machine.specs.declared.Prior.{Prior}
+use Rattle.machine.specs.declared.Sizes.{Sizes}
+use Rattle.machine.specs.Meaning.Tables.{entry, pairs, at, In, Ok}
+use Rattle.machine.specs.Working.Maps.{Complete, Chosen}
+
+abbrev pub move : Sizes → List ℕ → List ℕ → Pair → ℕ → Pair
+move z next0 next1 p v = record { old = entry z next0 (p .old) v; new = entry z next1 (p .new) v }
+
+pub record Few (z : Sizes) : Type 0 where
+  pub few-old : z .old ≤ 128
+  pub few-new : z .new ≤ 128
+  pub few-vectors : z .vectors ≤ 64
+
+pub record Nexts (z : Sizes) (next0 next1 : List ℕ) : Type 0 where
+  pub few : Few z
+  pub long-old : z .old * z .vectors ≤ length next0
+  pub long-new : z .new * z .vectors ≤ length next1
+  pub next-old : (i : ℕ) → i < z .old * z .vectors → getD next0 i 0 < z .old
+  pub next-new : (i : ℕ) → i < z .new * z .vectors → getD next1 i 0 < z .new
+
+pub record Outs (z : Sizes) (out0 out1 : List ℕ) : Type 0 where
+  pub few : Few z
+  pub long-old : z .old * z .vectors ≤ length out0
+  pub long-new : z .new * z .vectors ≤ length out1
+
+pub record Walk (z : Sizes) (next0 next1 d : List ℕ) : Type 0 where
+  pub nexts : Nexts z next0 next1
+  pub room : pairs z ≤ length d
+
+pub record PlaceOf (s v n m r : ℕ) : Type 0 where
+  pub is : r ≡ s * m + v
+  pub under : r < n * m
+
+pub record LowestBelow (P : ℕ → Type 0) (n v : ℕ) : Type 0 where
+  pub most : v ≤ n
+  pub found : v < n → P v
+  pub below : (w : ℕ) → w < v → P w → ⊥
+
+pub record ChosenBelow (s : Prior) (P : ℕ → Type 0) (n v : ℕ) : Type 0 where
+  pub most : v ≤ n
+  pub found : v < n → Chosen s (λ w. (w < n) × P w) v
+  pub none : n ≤ v → (w : ℕ) → w < n → P w → ⊥
+
+pub record NoneBelow (P : ℕ → Type 0) (n v : ℕ) : Type 0 where
+  pub most : v ≤ n
+  pub below : (w : ℕ) → w < v → P w → ⊥
+
+abbrev pub Ones : Sizes → List ℕ → Pair → Type 0
+Ones z d p = at z d p ≡ 1
+
+abbrev pub Ready : Sizes → List ℕ → List ℕ → List ℕ → Type 0
+Ready z next0 next1 d = Complete (move z next0 next1) (Ok z) (Ones z d) (In z) (at z d)
