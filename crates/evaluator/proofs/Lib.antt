@@ -1,4 +1,3 @@
-pub mod Table
 pub mod Truth
 pub mod Bounds
 pub mod Sweep

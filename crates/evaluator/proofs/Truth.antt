@@ -1,48 +1,47 @@
--- The table of the two-net kinds, by a test that is computed over all of it; and every kind makes 0 or 1.
-use Prim.Native.Nat.{ℕ, zero, suc, _+_, _-_, _*_, _/_, _%_, _^_, _<_, _≤_}
-use mathlib.Core.Path.{_≡_, subst}
-use mathlib.Core.Bool.{Bool}
-use mathlib.Core.List.{List, [], _∷_}
+-- What AND, OR and XOR, alone and inverted, make of bits; and every kind makes 0 or 1.
+use Prim.Native.Nat.{ℕ, zero, suc, _+_, _-_, _%_, _<_, min, max}
+use mathlib.Core.Path.{_≡_, refl}
 use native.Mathlib.Omega.{arith}
-use lib.Dec.{T, eqb, eqb→eq}
-use lib.ListN.{getD}
-use Rattle.netlist.specs.declared.Gate.{Gate}
-use Rattle.netlist.specs.declared.Gate.the-variants.{Buf, Not, And, Or, Xor, Nand, Nor, Xnor}
-use Rattle.netlist.specs.Meaning.Gates.{kindOf, truth}
-use Rattle.evaluator.proofs.Table.{at}
+use lib.Bits.{bitAnd, bitOr, bitXor}
+use Rattle.netlist.specs.Meaning.Gates.{truth}
 
-table : List ℕ
-table = 8 ∷ 14 ∷ 6 ∷ 7 ∷ 1 ∷ 9 ∷ []
+-- a rule of two bits, from its four cases
+bits : (P : ℕ → ℕ → Type 0) → P 0 0 → P 0 1 → P 1 0 → P 1 1 → (a b : ℕ) → a < 2 → b < 2 → P a b
+bits P p q r s zero zero h l = p
+bits P p q r s zero (suc zero) h l = q
+bits P p q r s zero (suc (suc b)) h l = absurd (omega arith)
+bits P p q r s (suc zero) zero h l = r
+bits P p q r s (suc zero) (suc zero) h l = s
+bits P p q r s (suc zero) (suc (suc b)) h l = absurd (omega arith)
+bits P p q r s (suc (suc a)) b h l = absurd (omega arith)
 
-right : ℕ → ℕ → ℕ → ℕ → Bool
-right a b k x = eqb (x / 2 ^ (2 * a + b) % 2) (truth (2 + k) a b)
+pub not-law : (a b : ℕ) → a < 2 → b < 2 → bitXor a 1 ≡ truth 1 a b
+unfolding truth
+not-law = bits (λ a b. bitXor a 1 ≡ 1 - a) refl refl refl refl
 
-row : (a b k : ℕ) → a < 2 → b < 2 → k < 6 → T (right a b k (getD table k 0))
-unfolding right table truth
-row zero zero k p q h = at (right 0 0) table tt k h
-row zero (suc zero) k p q h = at (right 0 1) table tt k h
-row zero (suc (suc b)) k p q h = absurd (omega arith)
-row (suc zero) zero k p q h = at (right 1 0) table tt k h
-row (suc zero) (suc zero) k p q h = at (right 1 1) table tt k h
-row (suc zero) (suc (suc b)) k p q h = absurd (omega arith)
-row (suc (suc a)) b k p q h = absurd (omega arith)
+pub and-law : (a b : ℕ) → a < 2 → b < 2 → bitAnd a b ≡ truth 2 a b
+unfolding truth
+and-law = bits (λ a b. bitAnd a b ≡ min a b) refl refl refl refl
 
-pub two-law : (k a b : ℕ) → 2 ≤ k → k < 8 → a < 2 → b < 2 → getD (8 ∷ 14 ∷ 6 ∷ 7 ∷ 1 ∷ 9 ∷ []) (k - 2) 0 / 2 ^ (2 * a + b) % 2 ≡ truth k a b
-unfolding table right
-two-law k a b l h p q =
-    let e : 2 + (k - 2) ≡ k = omega arith in
-    subst (λ (m : ℕ). getD table (k - 2) 0 / 2 ^ (2 * a + b) % 2 ≡ truth m a b) e
-    (eqb→eq _ _ (row a b (k - 2) p q (omega arith)))
+pub or-law : (a b : ℕ) → a < 2 → b < 2 → bitOr a b ≡ truth 3 a b
+unfolding truth
+or-law = bits (λ a b. bitOr a b ≡ max a b) refl refl refl refl
 
-pub kind-lt : (g : Gate) → kindOf g < 8
-kind-lt (Buf a) = omega arith
-kind-lt (Not a) = omega arith
-kind-lt (And a b) = omega arith
-kind-lt (Or a b) = omega arith
-kind-lt (Xor a b) = omega arith
-kind-lt (Nand a b) = omega arith
-kind-lt (Nor a b) = omega arith
-kind-lt (Xnor a b) = omega arith
+pub xor-law : (a b : ℕ) → a < 2 → b < 2 → bitXor a b ≡ truth 4 a b
+unfolding truth
+xor-law = bits (λ a b. bitXor a b ≡ (a + b) % 2) refl refl refl refl
+
+pub nand-law : (a b : ℕ) → a < 2 → b < 2 → bitXor (bitAnd a b) 1 ≡ truth 5 a b
+unfolding truth
+nand-law = bits (λ a b. bitXor (bitAnd a b) 1 ≡ 1 - min a b) refl refl refl refl
+
+pub nor-law : (a b : ℕ) → a < 2 → b < 2 → bitXor (bitOr a b) 1 ≡ truth 6 a b
+unfolding truth
+nor-law = bits (λ a b. bitXor (bitOr a b) 1 ≡ 1 - max a b) refl refl refl refl
+
+pub xnor-law : (a b : ℕ) → a < 2 → b < 2 → bitXor (bitXor a b) 1 ≡ truth 7 a b
+unfolding truth
+xnor-law = bits (λ a b. bitXor (bitXor a b) 1 ≡ 1 - (a + b) % 2) refl refl refl refl
 
 pub truth-lt : (k a b : ℕ) → a < 2 → b < 2 → truth k a b < 2
 unfolding truth

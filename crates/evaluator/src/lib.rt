@@ -7,7 +7,7 @@ ghost use Prim.Native.Nat.{ℕ, _+_, _^_, _<_, _≤_};
 ghost use lib.ListN.{getD};
 ghost use Rattle.numbers.specs.Meaning.Bits.{horner};
 ghost use Rattle.memory.specs.Working.Filling.{Filled};
-ghost use Rattle.netlist.specs.Meaning.Gates.{firstOf, secondOf, truth};
+ghost use Rattle.netlist.specs.Meaning.Gates.{firstOf, secondOf};
 ghost use Rattle.netlist.specs.Meaning.Nets.{cellBase, gateValue, source, value, latched, nextState, outputs};
 ghost use Rattle.netlist.specs.Working.Sound.{Sound};
 ghost use Rattle.evaluator.specs.Working.Values.{mostNets, Evaluable, Holds, Readable, Latchable, latchedIn, Spreads};
@@ -91,30 +91,21 @@ fn spread(vals: &mut [u8; Image::MOST_NETS], start: usize, width: usize, number:
     }
 }
 
+// What a gate makes of the values of the nets that it reads: of two values AND, OR or XOR, or one of these inverted.
 fn gate_value(g: Gate, vals: &[u8; Image::MOST_NETS]) -> u8
     requires { ⌜ (firstOf g < mostNets) × (secondOf g < mostNets) × ((n : ℕ) → getD (now vals) n 0 < 2) ⌝ }
     ensures { λ r. ⌜ r ≡ gateValue g (λ n. getD (now (vals .entry)) n 0) ⌝ }
 {
-    let k = netlist::kind_of(g);
-    let a = vals[netlist::first_of(g) as usize];
-    let b = vals[netlist::second_of(g) as usize];
-    match k {
-        0 => a,
-        1 => 1 - a,
-        _ => two(k, a, b),
+    match g {
+        Gate::Buf(a) => vals[a as usize],
+        Gate::Not(a) => vals[a as usize] ^ 1,
+        Gate::And(a, b) => vals[a as usize] & vals[b as usize],
+        Gate::Or(a, b) => vals[a as usize] | vals[b as usize],
+        Gate::Xor(a, b) => vals[a as usize] ^ vals[b as usize],
+        Gate::Nand(a, b) => (vals[a as usize] & vals[b as usize]) ^ 1,
+        Gate::Nor(a, b) => (vals[a as usize] | vals[b as usize]) ^ 1,
+        Gate::Xnor(a, b) => vals[a as usize] ^ vals[b as usize] ^ 1,
     }
-}
-
-// Four bits a kind from 2 on: bit 2 * a + b is the value at a and b.
-const TABLE: [u8; 6] = [8, 14, 6, 7, 1, 9];
-
-// What a kind that reads two nets makes of their values.
-fn two(kind: u16, a: u8, b: u8) -> u8
-    requires { ⌜ (2 ≤ kind) × (kind < 8) × (a < 2) × (b < 2) ⌝ }
-    ensures { λ r. ⌜ r ≡ truth kind a b ⌝ }
-{
-    let row = TABLE[(kind - 2) as usize];
-    (row >> (2 * a + b)) % 2
 }
 
 // The number that n flip-flops hold after the clock, the first most significant. `own` is the net of the first.
