@@ -43,15 +43,29 @@ fn read(bytes: &[u8]) -> (Design, usize) {
     (design, (bits.at + 7) / 8)
 }
 
-// An order in which every cell stands behind those that it reads.
+// Which cells lead to a flip-flop or an output.
+fn kept(d: &Design) -> Vec<bool> {
+    let base = 2 + d.inputs + d.latches;
+    let mut kept = vec![false; d.cells.len()];
+    let mut nets: Vec<usize> = d.flip_flops.iter().flatten().chain(&d.shown).copied().collect();
+    while let Some(net) = nets.pop() {
+        if net >= base && !kept[net - base] {
+            kept[net - base] = true;
+            nets.extend(&d.cells[net - base][1..]);
+        }
+    }
+    kept
+}
+
+// An order in which every kept cell stands behind those that it reads.
 fn order(d: &Design) -> Vec<usize> {
     let base = 2 + d.inputs + d.latches;
-    let mut placed = vec![false; d.cells.len()];
+    let mut placed: Vec<bool> = kept(d).iter().map(|kept| !kept).collect();
     let mut order = Vec::new();
-    while order.len() < d.cells.len() {
+    while placed.contains(&false) {
         let ready = |net: usize| net < base || placed[net - base];
         let next = (0..d.cells.len()).find(|&i| !placed[i] && ready(d.cells[i][1]) && ready(d.cells[i][2]));
-        let next = next.expect("a loop of cells");
+        let next = next.expect("a loop of cells that leads to a flip-flop or an output");
         placed[next] = true;
         order.push(next);
     }

@@ -52,7 +52,7 @@ class Drawing:
         # The variables that are read negated, by their odd literals.
         self.negated = sorted({literal for literal in self.read if literal % 2 and literal > 1})
         refuse(3, len(self.ands) + len(self.negated) > 256)
-        # Any one clock asks for the value of every AND.
+        # Any one clock asks for the value of every AND from which ANDs lead to a flip-flop or an output, and of no other.
         self.step([0] * len(self.latches), [0] * len(self.inputs))
 
     def read_header(self, line):
@@ -95,8 +95,6 @@ class Drawing:
             refuse(9, known[literal] is None)
             return known[literal]
 
-        for own in gates:
-            value(own)
         return [value(literal) for literal in self.outputs], [value(data) for _, data in self.latches]
 
 
@@ -392,13 +390,20 @@ ok no driver, not read:aag 3 1 0 1 0\n4\n4\n
 9 AND on itself:aag 1 0 0 1 1\n2\n2 2 1\n
 9 AND on itself by its second net:aag 1 0 0 1 1\n2\n2 1 2\n
 9 AND on itself, negated:aag 1 0 0 1 1\n2\n2 3 1\n
-9 AND on itself that nothing reads:aag 1 0 0 0 1\n2 2 2\n
-9 AND on itself beside the constant 0:aag 1 0 0 1 1\n0\n2 2 0\n
+ok AND on itself that nothing reads:aag 1 0 0 0 1\n2 2 2\n
+ok AND on itself beside the constant 0:aag 1 0 0 1 1\n0\n2 2 0\n
 9 two ANDs in a ring:aag 2 0 0 1 2\n2\n2 4 1\n4 2 1\n
 9 two ANDs in a ring, both negated:aag 2 0 0 1 2\n2\n2 5 1\n4 3 1\n
-9 two ANDs in a ring that nothing reads:aag 3 1 0 1 2\n2\n2\n4 6 2\n6 4 2\n
+ok two ANDs in a ring that nothing reads:aag 3 1 0 1 2\n2\n2\n4 6 2\n6 4 2\n
 9 three ANDs in a ring:aag 4 1 0 1 3\n2\n4\n4 8 2\n6 4 2\n8 6 2\n
-9 a ring behind the last AND of a row:aag 4 1 0 1 3\n2\n2\n4 2 2\n6 4 8\n8 2 7\n
+ok a ring behind the last AND of a row that nothing reads:aag 4 1 0 1 3\n2\n2\n4 2 2\n6 4 8\n8 2 7\n
+9 a ring behind the last AND of a row:aag 4 1 0 1 3\n2\n6\n4 2 2\n6 4 8\n8 2 7\n
+9 a ring that is read by a flip-flop that nothing reads:aag 3 1 1 1 1\n2\n4 6\n2\n6 7 2\n
+9 a ring that is shown negated:aag 1 0 0 1 1\n3\n2 2 1\n
+9 a ring, ANDs and the constant 0 on the way to an output:aag 3 0 0 1 3\n6\n2 3 1\n4 2 0\n6 4 0\n
+ok a ring, and ANDs that nothing reads behind it:aag 3 1 0 1 2\n2\n2\n4 5 2\n6 4 2\n
+9 two rings of which one is shown:aag 2 0 0 1 2\n4\n2 2 1\n4 4 1\n
+ok a ring that reads what is shown:aag 3 1 0 1 2\n2\n4\n4 2 2\n6 7 4\n
 9 a ring beside a flip-flop:aag 3 0 1 1 2\n2 4\n4\n4 6 2\n6 2 5\n
 
 ok text behind, symbols:aag 2 1 1 1 0\n2\n4 2\n4\ni0 dry\nl0 held\no0 valve\n
@@ -489,10 +494,11 @@ def headers():
             yield 3, f"{name} {sizes[place]}", written([sizes, [2], [4, 6], [6], [6, 4, 2]])
 
 
-def row_of(ands, nots, other={}):
-    """One input, and so many ANDs in a row, of which the last so many read the one before negated; in place of some ANDs another."""
+def row_of(ands, nots, other={}, shown=None):
+    """One input, and so many ANDs in a row, of which the last so many read the one before negated and the last is shown; in place of
+    some ANDs another, and in place of the last another literal."""
     gates = [[4 + 2 * k, 2 + 2 * k + (ands - nots <= k), 1] for k in range(ands)]
-    return written([[511, 1, 0, 0, ands], [2]] + [other.get(k, gate) for k, gate in enumerate(gates)])
+    return written([[511, 1, 0, 1, ands], [2], [shown or 2 + 2 * ands]] + [other.get(k, gate) for k, gate in enumerate(gates)])
 
 
 def limits():
@@ -508,6 +514,9 @@ def limits():
     yield "ok", "256 ANDs of the highest variables, falling", written(
         [[511, 0, 0, 1, 256], [1022]] + [[1022 - 2 * k, 1020 - 2 * k if k < 255 else 1, 1] for k in range(256)])
     yield 9, "256 ANDs, two in a ring", row_of(256, 0, {1: [6, 8, 1]})
+    yield "ok", "256 ANDs, two in a ring that nothing reads but ANDs that nothing reads", row_of(256, 0, {1: [6, 8, 1]}, 4)
+    yield 9, "256 ANDs in a ring", row_of(256, 0, {0: [4, 514, 1]})
+    yield "ok", "256 ANDs in a ring that nothing else reads", row_of(256, 0, {0: [4, 514, 1]}, 2)
     yield 3, "256 ANDs and 1 NOT, two in a ring", row_of(256, 1, {1: [6, 8, 1]})
     yield 18, "256 ANDs and 1 NOT, no driver", row_of(256, 1, {1: [6, 1022, 1]})
     yield 18, "256 ANDs and 1 NOT, two drivers", row_of(256, 1, {255: [4, 513, 1]})
@@ -532,7 +541,7 @@ def lengths():
         yield 17, f"{name}, header without a line feed", long(b"aag 0 0 0 0 0")
         yield 17, f"{name}, last line without a line feed", long(p[:-1])
         yield 3, f"{name}, M 512", long(b"aag 512 0 0 0 0\n")
-        yield 9, f"{name}, AND on itself", long(b"aag 1 0 0 0 1\n2 2 2\n")
+        yield 9, f"{name}, AND on itself", long(b"aag 1 0 0 1 1\n2\n2 2 2\n")
         yield 18, f"{name}, no driver", long(b"aag 1 0 0 1 0\n2\n")
     for text, name in (p, "P"), (q, "Q"):
         for cut in range(len(text), 0, -1):

@@ -5,7 +5,8 @@
   python3 crates/align_trial/model.py --lowest    prints what that was while every step took the lowest vector, before request §2
 
 It was written from the papers, not from the proved code, and goes another way where there is one: an image is a string of 0 and 1, a
-net is a column with its value in every state under every vector, a loop is a column that is asked for while it is being worked out.
+net is a column with its value in every state under every vector, a loop is a column that is asked for while it is being worked out, and
+only the nets of flip-flops and outputs are asked for.
 States of both designs stand in one row and are put into classes, finer with every step; pairs are alike that end in one class. Lists to
 an alike pair are found backwards from the alike pairs. Where there are few lists, a shortest one is also picked by the words of §2, from
 all lists that do.
@@ -68,15 +69,15 @@ class Design:
         refuse(6, any(kind < 2 and second > 0 for kind, _, second in self.cells))
         refuse(7, "1" in bits[used:8 * self.bytes])
         refuse(8, whole and len(data) > self.bytes)
-        columns = self.columns()
+        columns = self.columns(read)
         flip_flops = [(read[at:at + each] + [1, 0])[:3] for at in range(0, shown_at, each)]
         refuse(19, version == 2 and all(nets[1:] == [1, 0] for nets in flip_flops))
         own = columns[2 + self.inputs:2 + self.inputs + self.latches]
         self.next = self.table([latched(held, *(columns[net] for net in nets)) for held, nets in zip(own, flip_flops)])
         self.out = self.table([columns[net] for net in read[shown_at:]])
 
-    def columns(self):
-        """For each net its values in every state under every vector, as the bits of one number."""
+    def columns(self, read):
+        """For each net that these come from its values in every state under every vector, as the bits of one number."""
         width = self.latches + self.inputs
         ones = 2 ** 2 ** width - 1
         # Latches and inputs are the bits of the place: of state × vectors + vector.
@@ -94,7 +95,7 @@ class Design:
                 columns[net] = gate(kind, column(first), column(second)) & ones
             return columns[net]
 
-        for net in range(len(columns)):
+        for net in read:
             column(net)
         return columns
 

@@ -88,15 +88,35 @@ class Design:
         first_cell = 2 + self.inputs + self.latches
         if any(net >= first_cell + self.count for net in self.read()):
             return [5]
-        return [9] if any(self.reaches(cell, cell, set()) for cell in range(self.count)) else []
+        return [9] if any(self.kept(cell, set()) and self.reaches(cell, cell, set()) for cell in range(self.count)) else []
+
+    def kept(self, cell, seen):
+        """Whether cells lead from a cell to a flip-flop or an output, going with the signal."""
+        net = 2 + self.inputs + self.latches + cell
+        if net in self.shown[:self.outputs] or any(net in nets for nets in self.flip_flops):
+            return True
+        seen.add(cell)
+        readers = [k for k, (kind, first, second) in enumerate(self.cells[:self.count]) if net == first or (kind > 1 and net == second)]
+        return any(k not in seen and self.kept(k, seen) for k in readers)
+
+    def cells_read(self, cell):
+        kind, first, second = self.cells[cell]
+        cells = [net - 2 - self.inputs - self.latches for net in ([first, second] if kind > 1 else [first])]
+        return [other for other in cells if other >= 0]
 
     def reaches(self, cell, sought, seen):
-        kind, first, second = self.cells[cell]
-        for net in [first, second] if kind > 1 else [first]:
-            other = net - 2 - self.inputs - self.latches
-            if other == sought or (other >= 0 and other not in seen and (seen.add(other) or self.reaches(other, sought, seen))):
+        for other in self.cells_read(cell):
+            if other == sought or (other not in seen and (seen.add(other) or self.reaches(other, sought, seen))):
                 return True
         return False
+
+    def plan(self):
+        """The kept cells, each behind those that it reads, and of several that could be next the lowest."""
+        left, order = [cell for cell in range(self.count) if self.kept(cell, set())], []
+        while left:
+            order.append(next(cell for cell in left if not set(self.cells_read(cell)) & set(left)))
+            left.remove(order[-1])
+        return order
 
     def step(self, state, vector):
         """The next state and the output."""
@@ -328,6 +348,9 @@ def on_one(call, design, numbers):
     faults = design.faults()
     if call == "fault_of":
         return f"fault {faults[0] if faults else 0}"
+    if call == "levelize":
+        plan = [] if faults else design.plan()
+        return f"number {faults[0] if faults else 0} kept {len(plan)}" + short(filled(plan, CELLS))
     if call == "clock":
         state, vector = numbers[:2]
         if not faults and (state >= 2 ** design.latches or vector >= 2 ** design.inputs):
@@ -340,8 +363,8 @@ def on_one(call, design, numbers):
     return said + short(filled(image, numbers[1]), lambda byte: f"{byte:02x}", "x")
 
 
-DESIGNS = {"compare": 2, "tabulate_both": 2, "tabulate": 1, "write": 1, "clock": 1, "fault_of": 1}
-TAKE_NO_NUMBERS = ["fault_of", "length_of", "read"]
+DESIGNS = {"compare": 2, "tabulate_both": 2, "tabulate": 1, "write": 1, "clock": 1, "fault_of": 1, "levelize": 1}
+TAKE_NO_NUMBERS = ["fault_of", "levelize", "length_of", "read"]
 OTHERS = ["length_of", "read", "map_alike", "map_alignable", "trace_of", "list_of", "judge", "earlier_number"]
 ORDER = [*range(1, 10), 19, *range(10, 17)]
 
@@ -380,7 +403,7 @@ def answer(line):
     if call == "earlier_number":
         some = [min(number, 255) for number in numbers[:2] if number]
         return f"number {min(some, key=lambda n: (ORDER.index(n) if n in ORDER else len(ORDER), n), default=0)}"
-    if call in ("write", "clock", "fault_of"):
+    if call in ("write", "clock", "fault_of", "levelize"):
         return on_one(call, designs[0], numbers)
     if call in DESIGNS:
         return on_designs(call, designs[0], designs[-1], numbers)

@@ -19,7 +19,7 @@ module _ (t : List ℕ) (free : (p : Part) → TextFault t p → ⊥) where
   faultless : (n : ℕ) → DrawingFault (drawingIn t) n → ⊥
   faultless n f = free (whole n) (TextFault.drawing n f)
 
-  -- of a text to which no number applies: one clock of the design is what any values that fit the lines make it, and there are such
+  -- of a text to which no number applies: one clock of the design is what any values that fit the lines of inputs, flip-flops and kept ANDs make it, and there are such
   pub text-steps : {s v : ℕ} {f : ℕ → ℕ} → Evaluates (drawingIn t) s v f → (nextState (drawn (drawingIn t)) s v ≡ nextOf (drawingIn t) f) × (outputs (drawn (drawingIn t)) s v ≡ outputsOf (drawingIn t) f)
   text-steps a = drawn-steps numeral faultless a
 

@@ -96,7 +96,8 @@ pub fn spoiled(list: &Plain, place: usize, way: usize) -> Plain {
 }
 
 // A chain: each cell reads the next, and its value changes with that of the next. The last reads input 0, or the first cell where the
-// chain is closed; two flip-flops and an output read the first, one as its enable net.
+// chain is closed; two flip-flops and an output read the first, one as its enable net. Of the closed ones some half are dead: input 1 is
+// read there instead.
 pub fn chain(random: &mut u32, count: u16, closed: bool) -> Plain {
     let mut list = [0u16; plain::NUMBERS];
     list[plain::VERSION] = 2;
@@ -121,12 +122,14 @@ pub fn chain(random: &mut u32, count: u16, closed: bool) -> Plain {
         3 + 3 * count as usize,
         if closed { 6 } else { 2 },
     );
+    let dead = below(random, 2) == 0;
+    let end = if closed && dead { 3 } else { 6 };
     list[plain::DATA] = 3;
-    list[plain::ENABLE] = 6;
+    list[plain::ENABLE] = end;
     list[plain::CLEAR] = 5;
-    list[plain::DATA + 3] = 6;
+    list[plain::DATA + 3] = end;
     list[plain::ENABLE + 3] = 1;
-    list[plain::SHOWN] = 6;
+    list[plain::SHOWN] = end;
     list[plain::SHOWN + 2] = 5;
     list
 }

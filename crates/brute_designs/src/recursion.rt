@@ -1,6 +1,7 @@
 // The recursive evaluator: the value of a net is found from the kind of the cell that drives it and the values of the nets that this cell
 // reads, down to the constants, the inputs and the flip-flops. No order of evaluation is worked out and nothing is remembered. Each call
-// of the recursion has one turn less than its caller; a design of G cells without a loop never needs more than G turns.
+// of the recursion has one turn less than its caller; from a net that a flip-flop reads or an output shows, a design of G cells without
+// a loop of kept cells never needs more than G turns.
 ghost use Prim.Native.Nat.{_≤_};
 use crate::plain;
 use crate::plain::Plain;
@@ -38,11 +39,12 @@ pub fn net_over(list: &Plain) -> bool {
     false
 }
 
-// Whether a cell lies on a loop: then, and only then, the recursion from some cell can go through more cells than there are.
+// Whether a loop holds a kept cell: then, and only then, the recursion from a net that a flip-flop reads or an output shows can go through
+// more cells than there are.
 pub fn loops(list: &Plain) -> bool {
     let count = plain::at(list, plain::COUNT);
-    for i in 0..count {
-        if deeper(list, plain::first_cell(list) + i, count) {
+    for place in plain::DATA..plain::NUMBERS {
+        if plain::width(list, place) == 9 && deeper(list, plain::at(list, place), count) {
             return true;
         }
     }

@@ -9,7 +9,10 @@ use lib.Dec.{lit<, lit≤, eqb→eq}
 use lib.ListN.{getD}
 use Rattle.memory.specs.Meaning.Lists.{listOf}
 use Rattle.memory.proofs.Orders.{first-here}
+use Rattle.netlist.specs.declared.Gate.the-variants.{Not, And}
 use Rattle.netlist.specs.Meaning.Loops.{Path}
+use Rattle.netlist.specs.Meaning.Kept.{Taken, Kept}
+use Rattle.netlist.proofs.Kept.{none-kept}
 use Rattle.drawing.specs.Meaning.Lists.{has, place, sift}
 use Rattle.drawing.specs.Meaning.Wires.{drawn}
 use Rattle.drawing.specs.Meaning.Faults.{DrawingFault}
@@ -17,8 +20,8 @@ use Rattle.lines.specs.Meaning.Spelling.{words, behind, skip, digits, numeral, 
 use Rattle.aiger.specs.Meaning.Format.{aag, drawingIn}
 use Rattle.aiger.specs.Meaning.Faults.{LineFault, TextFault, header}
 use Rattle.pieces.specs.Meaning.Pieces.{bytes}
-use Rattle.drawing_sheet.specs.Meaning.Drawings.{RefusedBy, Drawings}
-use Rattle.drawing_sheet.proofs.Texts.{by-size, by-line, by-drivers, by-loop, by-none}
+use Rattle.drawing_sheet.specs.Meaning.Drawings.{RefusedBy, DrawnAs, design, Drawings}
+use Rattle.drawing_sheet.proofs.Texts.{by-size, by-line, by-drivers, by-loop, by-no-loop, by-none}
 
 by-header : (s : String) → TextFault (bytes s) (header 17) → RefusedBy s 17
 by-header s f = record { entry = header 17; first = first-here f; numbered = refl }
@@ -31,6 +34,11 @@ other-initial (inr e) = omega (arith, e)
 -- `aig` is not `aag`
 not-aag : _≡_ {A = List ℕ} (97 ∷ 105 ∷ 103 ∷ []) aag → ⊥
 not-aag e = omega (arith, ap (λ (w : List ℕ). getD w 1 0) e)
+
+-- neither a flip-flop nor an output
+dead-ring : DrawnAs "aag 1 0 0 0 1\n2 3 0\n" (design 0 (And 3 0 ∷ Not 2 ∷ []) [] [])
+unfolding drawn drawingIn listOf has place sift words behind skip digits numeral onward
+dead-ring = record { free = by-no-loop _ refl refl tt tt tt tt tt (λ i p k. none-kept (drawn (drawingIn (bytes "aag 1 0 0 0 1\n2 3 0\n"))) refl refl k); design = refl }
 
 pub drawings : Drawings
 unfolding drawn drawingIn listOf has place sift words behind skip digits numeral onward
@@ -49,7 +57,9 @@ drawings = record {
   nine-outputs = by-size _ refl refl tt (TextFault.outputs (lit< tt));
   many-ands = by-size _ refl refl tt (TextFault.ands (lit< tt));
   ring = by-loop _ refl refl tt tt tt tt tt 0
-      (Path.more (record { from = lit< tt; to = lit< tt; by = inl refl }) (Path.one {i = 1} (record { from = lit< tt; to = lit< tt; by = inl refl })));
+      (Path.more (record { from = lit< tt; to = lit< tt; by = inl refl }) (Path.one {i = 1} (record { from = lit< tt; to = lit< tt; by = inl refl })))
+      (Kept.ends (lit< tt) (Taken.shown 0 (lit< tt) refl));
+  dead-ring = dead-ring;
   no-text = by-header "" (TextFault.no-header refl);
   no-line = by-line _ refl refl tt tt 0 (lit< tt) (LineFault.missing refl);
   six-numbers = by-header "aag 0 0 0 0 0 0\n" (TextFault.not-five (λ e. omega (arith, e)));

@@ -16,6 +16,7 @@ use Rattle.limits.specs.Meaning.Limits.{mostInputs, mostLatches, mostOutputs, m
 use Rattle.netlist.specs.Meaning.Gates.{firstOf, secondOf}
 use Rattle.netlist.specs.Meaning.Nets.{cellBase, gateAt}
 use Rattle.netlist.specs.Meaning.Loops.{Reads, Path}
+use Rattle.netlist.specs.Meaning.Kept.{Kept}
 use Rattle.netlist.specs.Meaning.Faults.{DesignFault}
 use Rattle.drawing.specs.declared.Drawing.{Drawing}
 use Rattle.drawing.specs.Meaning.Limits.{mostVariables}
@@ -186,8 +187,8 @@ module _ (d : Design) (rank : ℕ → ℕ) where
     path-down (Path.one r) = down r
     path-down (Path.more r p) = omega (arith, down r, path-down p)
 
-    pub no-loop : (i : ℕ) → Path d i i → ⊥
-    no-loop i p = omega (arith, path-down p)
+    no-loop : (i : ℕ) → Path d i i → Kept d i → ⊥
+    no-loop i p k = omega (arith, path-down p)
 
 -- a text whose header line is spelled, then one whose sizes are few, whose lines are spelled, and whose variables are driven
 module _ (t : List ℕ) (word : wordAt t 0 0 ≡ aag) (six : length (wordsAt t 0) ≡ 6) (sizes : T (every (λ k. numeral (wordAt t 0 (suc k))) 5)) where
@@ -219,14 +220,14 @@ module _ (t : List ℕ) (word : wordAt t 0 0 ≡ aag) (six : length (wordsAt t 0
         no-3 : TextFault t (whole 3) → ⊥
         no-3 f = no-drawing-3 (drawingIn t) cells (of-drawing f (λ q. omega arith))
 
-        pub by-loop : (i : ℕ) → Path (drawn (drawingIn t)) i i → Number 9
-        by-loop i p = record { entry = whole 9; first = first-later no-17 (first-later (no-header-3 t few) (first-later (no-whole-17 t lines) (first-later no-18 (first-later no-3 (first-here (TextFault.drawing 9 (DrawingFault.loop (DesignFault.loop i p)))))))); numbered = refl }
+        pub by-loop : (i : ℕ) → Path (drawn (drawingIn t)) i i → Kept (drawn (drawingIn t)) i → Number 9
+        by-loop i p k = record { entry = whole 9; first = first-later no-17 (first-later (no-header-3 t few) (first-later (no-whole-17 t lines) (first-later no-18 (first-later no-3 (first-here (TextFault.drawing 9 (DrawingFault.loop (DesignFault.loop i p k)))))))); numbered = refl }
 
-        pub by-none : (rank : ℕ → ℕ) → T (every (rankTest (drawn (drawingIn t)) rank) (drawn (drawingIn t) .count)) → (p : Part) → TextFault t p → ⊥
-        by-none rank r p f = go (listed f) f
+        pub by-no-loop : ((i : ℕ) → Path (drawn (drawingIn t)) i i → Kept (drawn (drawingIn t)) i → ⊥) → (p : Part) → TextFault t p → ⊥
+        by-no-loop free p f = go (listed f) f
           where
             nine : DrawingFault (drawingIn t) 9 → ⊥
-            nine (DrawingFault.loop (DesignFault.loop i q)) = no-loop (drawn (drawingIn t)) rank r i q
+            nine (DrawingFault.loop (DesignFault.loop i q k)) = free i q k
 
             go : {p : Part} → Listed p → TextFault t p → ⊥
             go Listed.header-17 f = no-17 f
@@ -235,3 +236,6 @@ module _ (t : List ℕ) (word : wordAt t 0 0 ≡ aag) (six : length (wordsAt t 0
             go Listed.whole-18 f = no-18 f
             go Listed.whole-3 f = no-3 f
             go Listed.whole-9 f = nine (of-drawing f (λ q. omega arith))
+
+        pub by-none : (rank : ℕ → ℕ) → T (every (rankTest (drawn (drawingIn t)) rank) (drawn (drawingIn t) .count)) → (p : Part) → TextFault t p → ⊥
+        by-none rank r = by-no-loop (no-loop (drawn (drawingIn t)) rank r)

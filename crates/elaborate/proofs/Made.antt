@@ -84,7 +84,7 @@ module _ {d : Drawing} (s : Spelled d) (served : DrawingFault d 18 → ⊥) (few
       go : Kind (drawn d) m → DrawingFault d 9
       go (three q f) = absurd (drawn-3 s served few f)
       go (five q f) = absurd (drawn-5 s served few f)
-      go (nine q i p) = DrawingFault.loop (DesignFault.loop i p)
+      go (nine q l) = DrawingFault.loop (DesignFault.loop (l .0) (l .1) (l .2))
 
   pub draws-none : {c : Design} {m : ℕ} → c ≡ drawn d → FirstOrNone (DesignFault c) m → m ≡ 0 → Draws d (record { answer = Accepted; design = c })
   draws-none {c} is low z = record { keeps = (free, is) }

@@ -1,4 +1,5 @@
--- Values of variables and of nets that say the same: the ones fit the drawing if and only if the others fit its design.
+-- Values of variables and of nets that say the same where no dead cell drives: the ones fit the drawing if and only if the others fit its
+-- design.
 use Prim.Native.Nat.{ℕ, _+_, _-_, _*_, _/_, _%_, _<_, _≤_, min}
 use mathlib.Core.Path.{_≡_, refl, sym, _∙_, ap, ap₂, subst}
 use mathlib.Core.Bool.{true}
@@ -10,8 +11,11 @@ use Rattle.numbers.specs.Meaning.Bits.{bitOf}
 use Rattle.netlist.specs.declared.Gate.{Gate}
 use Rattle.netlist.specs.declared.Design.{Design}
 use Rattle.limits.specs.Meaning.Limits.{mostCells}
-use Rattle.netlist.specs.Meaning.Gates.{truth}
+use Rattle.netlist.specs.Meaning.Gates.{firstOf, secondOf, truth}
+use Rattle.netlist.specs.Meaning.Kept.{Kept}
 use Rattle.netlist.specs.Meaning.Nets.{cellBase, gateAt, gateValue, source, Satisfies}
+use Rattle.netlist.proofs.Kept.{kept-lt}
+use Rattle.netlist.proofs.Live.{Live, live-source, live-cell, live-first, live-second}
 use Rattle.drawing.specs.declared.Drawing.{Drawing}
 use Rattle.drawing.specs.Meaning.Lists.{has, place}
 use Rattle.drawing.specs.Meaning.Numbers.{input, latch, gate, first, second, owners, readsOf}
@@ -70,65 +74,75 @@ literal-even f x e = simp (eq-eqb (x % 2) 0 e)
 literal-odd : (f : ℕ → ℕ) (x : ℕ) → (x % 2 ≡ 0 → ⊥) → literal f x ≡ 1 - f (x / 2)
 literal-odd f x e = simp (ne-eqb (x % 2) 0 e)
 
--- the values f of variables and the values g of nets say the same, net by net
+-- the values f of variables and the values g of nets say the same, net by net; nets of dead cells are 0
 pub record Matches (d : Drawing) (f g : ℕ → ℕ) : Type 0 where
   pub zeroth : f 0 ≡ 0
   pub constants : (n : ℕ) → n < 2 → g n ≡ n
-  pub owned : (p n : ℕ) → p < owns d → n ≡ 2 + p → g n ≡ f (own d p / 2)
-  pub negatives : (i n : ℕ) → i < length (negated d) → n ≡ 2 + owns d + i → g n ≡ 1 - f (getD (negated d) i 0)
+  pub owned : (p n : ℕ) → p < owns d → n ≡ 2 + p → Live (drawn d) n → g n ≡ f (own d p / 2)
+  pub negatives : (i n : ℕ) → i < length (negated d) → n ≡ 2 + owns d + i → Live (drawn d) n → g n ≡ 1 - f (getD (negated d) i 0)
+  pub dead : (i : ℕ) → i < drawn d .count → (Kept (drawn d) i → ⊥) → g (cellBase (drawn d) + i) ≡ 0
 
 module _ {d : Drawing} {f g : ℕ → ℕ} (m : Matches d f g) where
   -- own literals have their variables' values
   input-net : (k : ℕ) → k < d .inputs → g (2 + k) ≡ f (input d k / 2)
-  input-net k h = m .owned k (2 + k) (omega arith) refl ∙ ap (λ (x : ℕ). f (x / 2)) (own-input d k h)
+  unfolding drawn
+  input-net k h = m .owned k (2 + k) (omega arith) refl (live-source (drawn d) (2 + k) (omega arith)) ∙ ap (λ (x : ℕ). f (x / 2)) (own-input d k h)
 
   latch-net : (k : ℕ) → k < d .latches → g (2 + d .inputs + k) ≡ f (latch d k / 2)
-  latch-net k h = m .owned (d .inputs + k) (2 + d .inputs + k) (omega arith) (omega arith) ∙ ap (λ (x : ℕ). f (x / 2)) (own-latch d k h)
+  unfolding drawn
+  latch-net k h = m .owned (d .inputs + k) (2 + d .inputs + k) (omega arith) (omega arith) (live-source (drawn d) (2 + d .inputs + k) (omega arith)) ∙ ap (λ (x : ℕ). f (x / 2)) (own-latch d k h)
 
-  gate-net : (i : ℕ) → i < d .ands → g (2 + d .inputs + d .latches + i) ≡ f (gate d i / 2)
-  gate-net i h = m .owned (d .inputs + d .latches + i) (2 + d .inputs + d .latches + i) (omega arith) (omega arith) ∙ ap (λ (x : ℕ). f (x / 2)) (own-gate d i h)
+  gate-net : (i : ℕ) → i < d .ands → Kept (drawn d) i → g (2 + d .inputs + d .latches + i) ≡ f (gate d i / 2)
+  unfolding drawn
+  gate-net i h k = m .owned (d .inputs + d .latches + i) (2 + d .inputs + d .latches + i) (omega arith) (omega arith) (live-cell (drawn d) k) ∙ ap (λ (x : ℕ). f (x / 2)) (own-gate d i h)
 
-  even-net : (x : ℕ) → 2 ≤ x → x % 2 ≡ 0 → Driven d x → g (netOf d x) ≡ f (x / 2)
-  even-net x h e w =
+  even-net : (x : ℕ) → 2 ≤ x → x % 2 ≡ 0 → Driven d x → Live (drawn d) (netOf d x) → g (netOf d x) ≡ f (x / 2)
+  even-net x h e w k =
       let p = driver d x e w in
-      m .owned (place x (owners d)) (netOf d x) (p .0) (net-even d x h e) ∙ ap (λ (y : ℕ). f (y / 2)) (p .1)
+      m .owned (place x (owners d)) (netOf d x) (p .0) (net-even d x h e) k ∙ ap (λ (y : ℕ). f (y / 2)) (p .1)
 
   module _ (sp : Spelled d) (served : DrawingFault d 18 → ⊥) where
     -- the literal under NOT cell i, and every literal that is read
-    under-net : (i : ℕ) → i < length (negated d) → g (netOf d (2 * getD (negated d) i 0)) ≡ f (getD (negated d) i 0)
-    under-net i h =
+    under-net : (i : ℕ) → i < length (negated d) → Live (drawn d) (netOf d (2 * getD (negated d) i 0)) → g (netOf d (2 * getD (negated d) i 0)) ≡ f (getD (negated d) i 0)
+    under-net i h k =
         let u = getD (negated d) i 0 in
         let w = under-driven sp served u (has-entry u (negated d) i h refl) in
         let q : 2 * u / 2 ≡ u = omega arith in
-        even-net (2 * u) (w .0) (omega arith) (w .1) ∙ ap f q
+        even-net (2 * u) (w .0) (omega arith) (w .1) k ∙ ap f q
 
-    pub net-literal : (x : ℕ) → has x (readsOf d) ≡ true → g (netOf d x) ≡ literal f x
-    net-literal x h = go (ℕ-discrete x 0) (ℕ-discrete x 1) (ℕ-discrete (x % 2) 0)
+    pub net-literal : (x : ℕ) → has x (readsOf d) ≡ true → Live (drawn d) (netOf d x) → g (netOf d x) ≡ literal f x
+    net-literal x h k = go (ℕ-discrete x 0) (ℕ-discrete x 1) (ℕ-discrete (x % 2) 0)
       where
         go : Dec (x ≡ 0) → Dec (x ≡ 1) → Dec (x % 2 ≡ 0) → g (netOf d x) ≡ literal f x
         go (yes e) p q = subst (λ (y : ℕ). g (netOf d y) ≡ literal f y) (sym e) (m .constants 0 (omega arith) ∙ sym (m .zeroth))
         go (no e) (yes p) q = subst (λ (y : ℕ). g (netOf d y) ≡ literal f y) (sym p) (m .constants 1 (omega arith) ∙ rw (m .zeroth))
-        go (no e) (no p) (yes q) = even-net x (omega arith) q (driven sp served x h (omega arith)) ∙ sym (literal-even f x q)
+        go (no e) (no p) (yes q) = even-net x (omega arith) q (driven sp served x h (omega arith)) k ∙ sym (literal-even f x q)
         go (no e) (no p) (no q) =
             let r = has-place (x / 2) (negated d) (read-negated sp x h (omega arith) (omega arith)) in
-            m .negatives (place (x / 2) (negated d)) (netOf d x) (r .0) (net-odd d x (omega arith) (omega arith)) ∙ ap (λ (u : ℕ). 1 - f u) (r .1) ∙ sym (literal-odd f x q)
+            m .negatives (place (x / 2) (negated d)) (netOf d x) (r .0) (net-odd d x (omega arith) (omega arith)) k ∙ ap (λ (u : ℕ). 1 - f u) (r .1) ∙ sym (literal-odd f x q)
 
     module _ (few : d .ands + length (negated d) ≤ mostCells) where
-      gate-literals : (i : ℕ) → i < d .ands → gateValue (gateAt (drawn d) i) g ≡ min (literal f (first d i)) (literal f (second d i))
-      gate-literals i h = and-value d few g i h ∙ ap₂ min (net-literal (first d i) (read-first d i h)) (net-literal (second d i) (read-second d i h))
+      gate-literals : (i : ℕ) → i < d .ands → Kept (drawn d) i → gateValue (gateAt (drawn d) i) g ≡ min (literal f (first d i)) (literal f (second d i))
+      gate-literals i h k =
+          let e = gate-and d few i h in
+          let p : Live (drawn d) (netOf d (first d i)) = subst (Live (drawn d)) (ap firstOf e) (live-first (drawn d) k) in
+          let q : Live (drawn d) (netOf d (second d i)) = subst (Live (drawn d)) (ap secondOf e) (live-second (drawn d) k) in
+          and-value d few g i h ∙ ap₂ min (net-literal (first d i) (read-first d i h) p) (net-literal (second d i) (read-second d i h) q)
 
       pub satisfies : {s v : ℕ} → Evaluates d s v f → Satisfies (drawn d) s v g
       unfolding drawn
       satisfies {s} {v} a = record {
         sources = sources-of (drawn d) s v g (m .constants) (λ k h. input-net k h ∙ a .inputs k h) (λ k h. latch-net k h ∙ a .latches k h);
-        cells = λ i h. at i h (decLt i (d .ands));
+        kept = λ i k. at i k (kept-lt (drawn d) k) (decLt i (d .ands));
+        dead = m .dead;
       }
         where
-          at : (i : ℕ) → i < d .ands + length (negated d) → Dec (i < d .ands) → g (cellBase (drawn d) + i) ≡ gateValue (gateAt (drawn d) i) g
-          at i h (yes l) = gate-net i l ∙ a .gates i l ∙ sym (gate-literals i l)
-          at i h (no l) =
+          at : (i : ℕ) → Kept (drawn d) i → i < d .ands + length (negated d) → Dec (i < d .ands) → g (cellBase (drawn d) + i) ≡ gateValue (gateAt (drawn d) i) g
+          at i k h (yes l) = gate-net i l k ∙ a .gates i l k ∙ sym (gate-literals i l k)
+          at i k h (no l) =
               let j : i - d .ands < length (negated d) = omega arith in
-              m .negatives (i - d .ands) (cellBase (drawn d) + i) j (omega arith) ∙ ap (λ (x : ℕ). 1 - x) (sym (under-net (i - d .ands) j)) ∙ sym (not-value d few g i (omega arith) h)
+              let u : Live (drawn d) (netOf d (2 * getD (negated d) (i - d .ands) 0)) = subst (Live (drawn d)) (ap firstOf (gate-not d few i (omega arith) h)) (live-first (drawn d) k) in
+              m .negatives (i - d .ands) (cellBase (drawn d) + i) j (omega arith) (live-cell (drawn d) k) ∙ ap (λ (x : ℕ). 1 - x) (sym (under-net (i - d .ands) j u)) ∙ sym (not-value d few g i (omega arith) h)
 
       pub evaluates : {s v : ℕ} → Satisfies (drawn d) s v g → Evaluates d s v f
       unfolding drawn
@@ -136,5 +150,5 @@ module _ {d : Drawing} {f g : ℕ → ℕ} (m : Matches d f g) where
         constant = m .zeroth;
         inputs = λ k h. sym (input-net k h) ∙ a .sources (2 + k) (omega arith) ∙ source-input (drawn d) s v k h;
         latches = λ k h. sym (latch-net k h) ∙ a .sources (2 + d .inputs + k) (omega arith) ∙ source-latch (drawn d) s v k h;
-        gates = λ i h. sym (gate-net i h) ∙ a .cells i (omega arith) ∙ gate-literals i h;
+        gates = λ i h k. sym (gate-net i h k) ∙ a .kept i k ∙ gate-literals i h k;
       }

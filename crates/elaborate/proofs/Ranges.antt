@@ -102,4 +102,4 @@ module _ {d : Drawing} (s : Spelled d) (served : DrawingFault d 18 → ⊥) (few
 pub drawn-accepted : {d : Drawing} → Spelled d → ((n : ℕ) → DrawingFault d n → ⊥) → Accepted (drawn d)
 drawn-accepted {d} s free =
     let few : d .ands + length (negated d) ≤ mostCells = le-of-not-lt (λ l. free 3 (DrawingFault.cells l)) in
-    accepted-of (drawn-3 s (free 18) few) (drawn-5 s (free 18) few) (λ i p. free 9 (DrawingFault.loop (DesignFault.loop i p)))
+    accepted-of (drawn-3 s (free 18) few) (drawn-5 s (free 18) few) (λ i p k. free 9 (DrawingFault.loop (DesignFault.loop i p k)))

@@ -1,16 +1,15 @@
--- Every value is 0 or 1, so next states are below 2 to the L and outputs below 2 to the O; past the last net a value is 0.
-use Prim.Native.Nat.{ℕ, zero, suc, _+_, _-_, _^_, _<_, _≤_}
+-- Every value is 0 or 1, so next states are below 2 to the L and outputs below 2 to the O.
+use Prim.Native.Nat.{ℕ, zero, suc, _+_, _-_, _^_, _<_}
 use mathlib.Core.Path.{_≡_, refl}
 use mathlib.Core.Bool.{Bool, true, false, cond}
-use native.Mathlib.Omega.{arith}
 use native.Mathlib.Nat.{mod-lt}
-use borrow.Author.Tests.{le-ltb, ltb-true}
+use borrow.Author.Tests.{ltb-true}
 use lib.Dec.{ltb, lit<}
 use lib.ListN.{getD}
 use Rattle.numbers.specs.Meaning.Bits.{bitOf}
 use Rattle.numbers.proofs.Digits.{horner-lt}
 use Rattle.netlist.specs.declared.Design.{Design}
-use Rattle.netlist.specs.Meaning.Nets.{cellBase, netsOf, gateAt, latched, gateValue, source, settled, value, nextBit, outputBit, nextState, outputs, statesOf}
+use Rattle.netlist.specs.Meaning.Nets.{cellBase, netsOf, gateAt, latched, gateValue, source, settled, isLive, value, nextBit, outputBit, nextState, outputs, statesOf}
 use Rattle.evaluator.proofs.Truth.{truth-lt}
 
 pub source-lt : (d : Design) (s v n : ℕ) → source d s v n < 2
@@ -36,7 +35,12 @@ settled-lt d s v zero n = go (ltb n (cellBase d))
 settled-lt d s v (suc r) n = settle-lt d (settled d s v r) n (settled-lt d s v r) (ltb n (cellBase d)) (ltb n (netsOf d))
 
 pub value-lt : (d : Design) (s v n : ℕ) → value d s v n < 2
-value-lt d s v n = settled-lt d s v (d .count) n
+unfolding value
+value-lt d s v n = go (isLive d n)
+  where
+    go : (t : Bool) → cond t (settled d s v (d .count) n) 0 < 2
+    go true = settled-lt d s v (d .count) n
+    go false = lit< tt
 
 -- a flip-flop takes 0, its data or what it holds
 pub latched-lt : (c e x h : ℕ) → x < 2 → h < 2 → latched c e x h < 2
@@ -54,11 +58,3 @@ next-state-lt d s v = horner-lt (nextBit d s v) (d .latches) bit
 
 pub outputs-lt : (d : Design) (s v : ℕ) → outputs d s v < 2 ^ d .outputs
 outputs-lt d s v = horner-lt (outputBit d s v) (d .outputs) (λ j. value-lt d s v (getD (d .shown) j 0))
-
-settled-past : (d : Design) (s v r n : ℕ) → netsOf d ≤ n → settled d s v r n ≡ 0
-unfolding settled
-settled-past d s v zero n h = simp (le-ltb n (cellBase d) (omega arith))
-settled-past d s v (suc r) n h = simp (le-ltb n (cellBase d) (omega arith), le-ltb n (netsOf d) h)
-
-pub value-past : (d : Design) (s v n : ℕ) → netsOf d ≤ n → value d s v n ≡ 0
-value-past d s v n h = settled-past d s v (d .count) n h

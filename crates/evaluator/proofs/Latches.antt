@@ -9,7 +9,7 @@ use Rattle.numbers.proofs.Digits.{horner-room, horner-cong}
 use Rattle.netlist.specs.declared.Design.{Design}
 use Rattle.netlist.specs.Meaning.Nets.{latched, value, nextBit, nextState}
 use Rattle.netlist.specs.Working.Sound.{Sound}
-use Rattle.netlist.proofs.Values.{settled-source}
+use Rattle.netlist.proofs.Values.{value-source}
 use Rattle.evaluator.specs.Working.Values.{Holds, Latchable, latchedIn}
 use Rattle.evaluator.proofs.Spreading.{source-latch}
 use Rattle.evaluator.proofs.Bounds.{latched-lt}
@@ -43,7 +43,7 @@ one-latch x e c own vals k c1 e1 x1 b p q s t = t ∙ rw (p, q, s)
 
 -- a flip-flop's own net has the bit that it holds
 own-value : (d : Design) (s v k : ℕ) → k < d .latches → value d s v (2 + d .inputs + k) ≡ bitOf (d .latches) s k
-own-value d s v k h = settled-source d s v (2 + d .inputs + k) (d .count) (omega arith) ∙ source-latch d s v k
+own-value d s v k h = value-source d s v (2 + d .inputs + k) (omega arith) ∙ source-latch d s v k
 
 module _ (d : Design) (s v : ℕ) (vals : List ℕ) (w : Holds (value d s v) vals) where
   latched-bit : (k : ℕ) → k < d .latches → latchedIn (d .«data») (d .enable) (d .clear) (2 + d .inputs) vals k ≡ nextBit d s v k

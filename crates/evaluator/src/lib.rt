@@ -1,7 +1,7 @@
 // The values of the nets in one clock.
 //
-// The sources are set first; then one sweep over the cells, in an order in which each reads only nets that have their value already,
-// sets the rest.
+// The sources are set first; then one sweep over the kept cells, in an order in which each reads only nets that have their value already,
+// sets theirs. The nets of dead cells stay 0.
 ghost use mathlib.Core.Path.{_≡_};
 ghost use Prim.Native.Nat.{ℕ, _+_, _^_, _<_, _≤_};
 ghost use lib.ListN.{getD};
@@ -14,18 +14,19 @@ ghost use Rattle.evaluator.specs.Working.Values.{mostNets, Evaluable, Ho
 use limits::Image;
 use netlist::Design;
 use netlist::Gate;
+use order::Plan;
 
 pub struct Stepped {
     pub next: u8,
     pub out: u8,
 }
 
-// One clock of a design with an order of its cells.
-pub fn step(d: Design, cells: [u16; Image::MOST_CELLS], s: usize, v: usize) -> Stepped
-    requires { ⌜ Evaluable d cells ⌝ }
+// One clock of a design with an order of its kept cells.
+pub fn step(d: Design, plan: Plan, s: usize, v: usize) -> Stepped
+    requires { ⌜ Evaluable d (plan .kept) (plan .cells) ⌝ }
     ensures { λ r. ⌜ (r .next ≡ nextState d s v) × (r .out ≡ outputs d s v) ⌝ }
 {
-    let vals = values(d, cells, s, v);
+    let vals = values(d, plan, s, v);
     let data = d.data;
     let enable = d.enable;
     let clear = d.clear;
@@ -44,17 +45,17 @@ pub fn power(n: u8) -> usize
     1usize << n
 }
 
-// The value of every net, by one sweep over the cells.
-fn values(d: Design, cells: [u16; Image::MOST_CELLS], s: usize, v: usize) -> [u8; Image::MOST_NETS]
-    requires { ⌜ Evaluable d cells ⌝ }
+// The value of every net, by one sweep over the kept cells.
+fn values(d: Design, plan: Plan, s: usize, v: usize) -> [u8; Image::MOST_NETS]
+    requires { ⌜ Evaluable d (plan .kept) (plan .cells) ⌝ }
     ensures { λ r. ⌜ Holds (value d s v) r ⌝ }
 {
     let base = 2 + d.inputs as usize + d.latches as usize;
-    let count = d.count as usize;
+    let kept = plan.kept;
     let mut vals = sources(d, s, v);
     let mut k = 0;
-    while k < count {
-        let i = cells[k] as usize;
+    while k < kept {
+        let i = plan.cells[k] as usize;
         let c = d.cells[i];
         let g = c.gate;
         vals[base + i] = gate_value(g, &vals);

@@ -25,10 +25,10 @@ use Rattle.format.proofs.Decoding.{Decodes, decodes, plain-nets}
 use Rattle.format.proofs.Carried.{image-3, image-5, no-5}
 
 pub loop-of : {b : List ℕ} → ImageFault b 9 → DesignFault (decoded b) 9
-loop-of (ImageFault.loop i p) = DesignFault.loop i p
+loop-of (ImageFault.loop i p q) = DesignFault.loop i p q
 
 pub of-loop : {b : List ℕ} → DesignFault (decoded b) 9 → ImageFault b 9
-of-loop (DesignFault.loop i p) = ImageFault.loop i p
+of-loop (DesignFault.loop i p q) = ImageFault.loop i p q
 
 -- where 2 does not apply, 19 applies exactly where the version is not the one that the design needs
 module _ (b : List ℕ) (w : Decodes b (decoded b)) where
@@ -63,7 +63,7 @@ module _ (b : List ℕ) (head : Free (HeaderFault b)) (n : ℕ) (found : FirstOr
       go : Kind (decoded b) n → (n ≡ 9) × DesignFault (decoded b) 9
       go (three e f) = absurd (no-design-3 f)
       go (five e f) = absurd (q e)
-      go (nine e i p) = (e, DesignFault.loop i p)
+      go (nine e l) = (e, DesignFault.loop (l .0) (l .1) (l .2))
 
   no-design-5 : (n ≡ 5 → ⊥) → DesignFault (decoded b) 5 → ⊥
   no-design-5 q f = go (ℕ-discrete n 0)

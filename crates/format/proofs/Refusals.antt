@@ -42,7 +42,7 @@ small (ImageFault.shown k h l) = inl (lit< tt)
 small (ImageFault.unread i h k l) = inl (lit< tt)
 small (ImageFault.pad i h k l) = inl (lit< tt)
 small (ImageFault.over l) = inl (lit< tt)
-small (ImageFault.loop i p) = inl (lit< tt)
+small (ImageFault.loop i p q) = inl (lit< tt)
 small (ImageFault.needless v p) = inr (refl, ImageFault.needless v p)
 
 -- the numbers of images rise in the order: 1 to 9, and 19

@@ -29,7 +29,7 @@ module _ (b : List ℕ) (none : Free (ImageFault b)) where
   image-encodes = encoded b (decoded b) w (λ n h. none n) (needed-version b w (none 2) (none 19))
 
   pub image-accepted : Accepted (decoded b)
-  image-accepted = accepted-of (λ f. none 3 (image-3 b (decoded b) w f)) (λ f. none 5 (image-5 b (decoded b) w f)) (λ i p. none 9 (ImageFault.loop i p))
+  image-accepted = accepted-of (λ f. none 3 (image-3 b (decoded b) w f)) (λ f. none 5 (image-5 b (decoded b) w f)) (λ i p q. none 9 (ImageFault.loop i p q))
 
 -- the image of an accepted design spells it, and no number applies to it
 module _ (b : List ℕ) (d : Design) (e : Encodes d b) (a : Accepted d) where
@@ -91,7 +91,7 @@ module _ (b : List ℕ) (d : Design) (e : Encodes d b) (a : Accepted d) where
       l (e .seconds i q ∙ one-net (gateAt d i) (rw (e .kinds i q) at k))
   clean n (ImageFault.pad i h k l) = l (e .pad i (omega (arith, h, bits)) (omega (arith, k, e .size, bytes)))
   clean n (ImageFault.over l) = omega (arith, l, e .size, bytes)
-  clean n (ImageFault.loop i p) = a 9 (same-fault (decoded b) d (same-sym spelled) (DesignFault.loop i p))
+  clean n (ImageFault.loop i p q) = a 9 (same-fault (decoded b) d (same-sym spelled) (DesignFault.loop i p q))
   clean n (ImageFault.needless o p) =
       let one = one-version d (λ k h. let q : k < latchesIn b = omega (arith, e .latches) in (sym (e .enables k h) ∙ p k q .0, sym (e .clears k h) ∙ p k q .1)) in
       omega (arith, o, e .version, one)

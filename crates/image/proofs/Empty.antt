@@ -39,7 +39,7 @@ empty-design n (DesignFault.read k h l) = omega (arith, h)
 empty-design n (DesignFault.enable k h l) = omega (arith, h)
 empty-design n (DesignFault.clear k h l) = omega (arith, h)
 empty-design n (DesignFault.shown k h l) = omega (arith, h)
-empty-design n (DesignFault.loop i p) = no-loop p
+empty-design n (DesignFault.loop i p q) = no-loop p
 
 pub empty-encoded : Encodes emptyDesign emptyBytes
 unfolding fieldAt horner bitAt plainTo

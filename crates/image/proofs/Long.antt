@@ -115,7 +115,7 @@ module _ {b c : List ℕ} (f : SameFront b c) where
       (λ x. ImageFault.pad i (omega (arith, k, same-bits-in)) (omega (arith, o, same-bytes-in)) (λ e. l (f .bits i (omega (arith, o, fits x)) ∙ e)))
       w
   there h w (ImageFault.over l) = ⊎-elim (λ k. absurd (omega arith)) (λ x. ImageFault.over (omega (arith, fits x, same-bytes-in, f .long-other))) w
-  there h w (ImageFault.loop i p) = absurd (omega arith)
+  there h w (ImageFault.loop i p q) = absurd (omega arith)
   there h w (ImageFault.needless v p) = absurd (omega arith)
 
 module _ {b c : List ℕ} (f : SameFront b c) where

@@ -1,6 +1,6 @@
 -- Tests that compute, and what they show of finitely many entries.
 use Prim.Native.Nat.{ℕ, zero, suc, _<_}
-use mathlib.Core.Path.{_≡_, sym, subst}
+use mathlib.Core.Path.{_≡_, refl, sym, subst}
 use mathlib.Core.Logic.{_⊎_, inl, inr, ⊎-elim}
 use mathlib.Core.Bool.{Bool, true, false, _&&_, _||_, true≢false}
 use mathlib.Core.List.{List, [], _∷_}
@@ -29,6 +29,26 @@ or-right false b t n = t
 pub or-split : (a b : Bool) → T (a || b) → T a ⊎ T b
 or-split true b t = inl t
 or-split false b t = inr t
+
+pub or-one : (a b : Bool) → T a → T (a || b)
+or-one true b t = tt
+or-one false b t = absurd t
+
+pub or-other : (a b : Bool) → T b → T (a || b)
+or-other true b t = tt
+or-other false b t = t
+
+pub and-both : (a b : Bool) → T a → T b → T (a && b)
+and-both true b s t = t
+and-both false b s t = absurd s
+
+pub is-true : (b : Bool) → T b → b ≡ true
+is-true true t = refl
+is-true false t = absurd t
+
+pub is-false : (b : Bool) → (T b → ⊥) → b ≡ false
+is-false true n = absurd (n tt)
+is-false false n = refl
 
 pub holds : (b : Bool) → T b → b ≡ false → ⊥
 holds true t e = true≢false e

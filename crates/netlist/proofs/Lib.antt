@@ -1,5 +1,9 @@
+pub mod Kept
+pub mod Live
 pub mod Numbers
 pub mod Loops
+pub mod Steady
 pub mod Values
+pub mod Before
 pub mod Same
 pub mod Plain

@@ -1,4 +1,4 @@
--- Cells that cannot be placed lie behind a loop, and an order of all cells has none.
+-- Kept cells that cannot be placed lie behind a loop of kept cells.
 use Prim.Native.Nat.{ℕ, zero, suc, _-_, _<_, _≤_}
 use mathlib.Core.Path.{_≡_, refl, sym, _∙_, ap, subst}
 use mathlib.Core.Bool.{Bool, true, false, cond}
@@ -11,8 +11,9 @@ use Rattle.numbers.proofs.Pigeon.{pigeon}
 use Rattle.netlist.specs.declared.Design.{Design}
 use Rattle.netlist.specs.declared.Gate.{Gate}
 use Rattle.netlist.specs.Meaning.Gates.{firstOf, secondOf}
-use Rattle.netlist.specs.Meaning.Nets.{cellBase, gateAt}
+use Rattle.netlist.specs.Meaning.Cells.{cellBase, gateAt}
 use Rattle.netlist.specs.Meaning.Loops.{Reads, Path, OnLoop}
+use Rattle.netlist.specs.Meaning.Kept.{Kept}
 use Rattle.netlist.specs.Working.Sound.{Sound, readyNet, readyGate}
 
 pub clash : true ≡ false → ⊥
@@ -95,15 +96,25 @@ between {d} (go s w) zero b p q = ahead (go s w) b p q
 between (go s w) (suc a) zero p q = absurd (not-suc-le-zero p)
 between (go s w) (suc a) (suc b) p q = between w a b (omega arith) (omega arith)
 
--- a walk as long as there are cells comes by some cell twice
-pub walk-loops : (d : Design) (i : ℕ) → Walk d i (d .count) → (k : ℕ) × OnLoop d k
-walk-loops d i l =
-    let t = pigeon (d .count) (cell l) (λ k _. cell-lt l k) in
-    (cell l (t .0), subst (λ (x : ℕ). Path d (cell l (t .0)) x) (sym (t .4)) (between l (t .0) (t .1) (t .2) (t .3)))
+cell-kept : {d : Design} {i r : ℕ} (w : Walk d i r) (k : ℕ) → Kept d i → Kept d (cell w k)
+unfolding cell
+cell-kept (stop h) k q = q
+cell-kept (go s w) zero q = q
+cell-kept (go s w) (suc k) q = cell-kept w k (Kept.leads s q)
 
--- where every unmarked cell reads an unmarked one, an unmarked cell leads to a loop
-pub stuck-loops : (d : Design) (m : ℕ → Bool) → ((i : ℕ) → i < d .count → m i ≡ false → ReadsUnmarked d m i) → (i : ℕ) → i < d .count → m i ≡ false → (k : ℕ) × OnLoop d k
-stuck-loops d m next i h e = walk-loops d i (on (d .count) i h e)
+-- some kept cell lies on a loop
+abbrev pub KeptLoop : Design → Type 0
+KeptLoop d = (i : ℕ) × OnLoop d i × Kept d i
+
+-- a walk as long as there are cells comes by some cell twice
+pub walk-loops : (d : Design) (i : ℕ) → Kept d i → Walk d i (d .count) → KeptLoop d
+walk-loops d i q l =
+    let t = pigeon (d .count) (cell l) (λ k _. cell-lt l k) in
+    (cell l (t .0), subst (λ (x : ℕ). Path d (cell l (t .0)) x) (sym (t .4)) (between l (t .0) (t .1) (t .2) (t .3)), cell-kept l (t .0) q)
+
+-- where every unmarked cell reads an unmarked one, an unmarked kept cell leads to a loop
+pub stuck-loops : (d : Design) (m : ℕ → Bool) → ((i : ℕ) → i < d .count → m i ≡ false → ReadsUnmarked d m i) → (i : ℕ) → i < d .count → m i ≡ false → Kept d i → KeptLoop d
+stuck-loops d m next i h e q = walk-loops d i q (on (d .count) i h e)
   where
     on : (r i : ℕ) → i < d .count → m i ≡ false → Walk d i r
     on zero i h e = stop h

@@ -14,16 +14,18 @@ use Rattle.memory.proofs.Refusals.{lowest-number}
 use Rattle.memory.proofs.Table.{up-to-16}
 use Rattle.netlist.specs.declared.Design.{Design}
 use Rattle.netlist.specs.Meaning.Gates.{firstOf, secondOf}
-use Rattle.netlist.specs.Meaning.Nets.{netsOf, gateAt}
+use Rattle.netlist.specs.Meaning.Cells.{netsOf, gateAt}
 use Rattle.netlist.specs.Meaning.Loops.{OnLoop}
+use Rattle.netlist.specs.Meaning.Kept.{Kept}
 use Rattle.netlist.specs.Meaning.Faults.{DesignFault, Accepted}
 use Rattle.netlist.specs.Working.Sound.{Within, NetsBelow, Sound}
+use Rattle.netlist.proofs.Loops.{KeptLoop}
 
 -- every number that applies is 3, 5 or 9
 pub data Kind (d : Design) (m : ℕ) : Type 0 where
   three : m ≡ 3 → DesignFault d 3 → Kind d m
   five : m ≡ 5 → DesignFault d 5 → Kind d m
-  nine : m ≡ 9 → (i : ℕ) → OnLoop d i → Kind d m
+  nine : m ≡ 9 → KeptLoop d → Kind d m
 
 pub kind : {d : Design} {m : ℕ} → DesignFault d m → Kind d m
 kind (DesignFault.inputs l) = three refl (DesignFault.inputs l)
@@ -36,7 +38,7 @@ kind (DesignFault.read k h l) = five refl (DesignFault.read k h l)
 kind (DesignFault.enable k h l) = five refl (DesignFault.enable k h l)
 kind (DesignFault.clear k h l) = five refl (DesignFault.clear k h l)
 kind (DesignFault.shown k h l) = five refl (DesignFault.shown k h l)
-kind (DesignFault.loop i p) = nine refl i p
+kind (DesignFault.loop i p q) = nine refl (i, p, q)
 
 pub fault-bounds : {d : Design} {m : ℕ} → DesignFault d m → (3 ≤ m) × (m < 10)
 fault-bounds {d} {m} f = go (kind f)
@@ -44,7 +46,7 @@ fault-bounds {d} {m} f = go (kind f)
     go : Kind d m → (3 ≤ m) × (m < 10)
     go (three e g) = (omega arith, omega arith)
     go (five e g) = (omega arith, omega arith)
-    go (nine e i p) = (omega arith, omega arith)
+    go (nine e l) = (omega arith, omega arith)
 
 pub design-among : {d : Design} → UpTo16 (DesignFault d)
 design-among m f = (omega (arith, fault-bounds f .0), omega (arith, fault-bounds f .1))
@@ -52,14 +54,14 @@ design-among m f = (omega (arith, fault-bounds f .0), omega (arith, fault-bounds
 pub design-numbered : {d : Design} → Numbered (DesignFault d)
 design-numbered = up-to-16 design-among
 
--- no loop, and neither 3 nor 5
-pub accepted-of : {d : Design} → (DesignFault d 3 → ⊥) → (DesignFault d 5 → ⊥) → ((i : ℕ) → OnLoop d i → ⊥) → Accepted d
+-- no loop with a kept cell, and neither 3 nor 5
+pub accepted-of : {d : Design} → (DesignFault d 3 → ⊥) → (DesignFault d 5 → ⊥) → ((i : ℕ) → OnLoop d i → Kept d i → ⊥) → Accepted d
 accepted-of {d} a b c m f = go (kind f)
   where
     go : Kind d m → ⊥
     go (three e g) = a g
     go (five e g) = b g
-    go (nine e i p) = c i p
+    go (nine e l) = c (l .0) (l .1) (l .2)
 
 pub lowest-3 : {d : Design} → DesignFault d 3 → FirstOrNone (DesignFault d) 3
 lowest-3 f = lowest-number design-numbered (record { applies = f; lower = λ m h g. omega (arith, fault-bounds g .0) })
@@ -70,15 +72,15 @@ lowest-5 {d} a f = lowest-number design-numbered (record { applies = f; lower = 
     go : (m : ℕ) → m < 5 → Kind d m → ⊥
     go m h (three e g) = a g
     go m h (five e g) = omega arith
-    go m h (nine e i p) = omega arith
+    go m h (nine e l) = omega arith
 
-pub lowest-9 : {d : Design} → (DesignFault d 3 → ⊥) → (DesignFault d 5 → ⊥) → (i : ℕ) × OnLoop d i → FirstOrNone (DesignFault d) 9
-lowest-9 {d} a b l = lowest-number design-numbered (record { applies = DesignFault.loop (l .0) (l .1); lower = λ m h g. go m h (kind g) })
+pub lowest-9 : {d : Design} → (DesignFault d 3 → ⊥) → (DesignFault d 5 → ⊥) → KeptLoop d → FirstOrNone (DesignFault d) 9
+lowest-9 {d} a b l = lowest-number design-numbered (record { applies = DesignFault.loop (l .0) (l .1) (l .2); lower = λ m h g. go m h (kind g) })
   where
     go : (m : ℕ) → m < 9 → Kind d m → ⊥
     go m h (three e g) = a g
     go m h (five e g) = b g
-    go m h (nine e i p) = omega arith
+    go m h (nine e l) = omega arith
 
 pub within : {d : Design} → (DesignFault d 3 → ⊥) → Within d
 within n = record {
@@ -102,12 +104,12 @@ sound w n = record {
   shows = λ k h. lt-of-not-le (λ l. n (DesignFault.shown k h l));
 }
 
--- an accepted design is sound and has no loop, and a sound one without a loop is accepted
+-- an accepted design is sound, and no loop of it holds a kept cell
 pub sound-of : {d : Design} → Accepted d → Sound d
 sound-of n = sound (within (n 3)) (n 5)
 
-pub loop-free : {d : Design} → Accepted d → (i : ℕ) → OnLoop d i → ⊥
-loop-free n i p = n 9 (DesignFault.loop i p)
+pub loop-free : {d : Design} → Accepted d → KeptLoop d → ⊥
+loop-free n l = n 9 (DesignFault.loop (l .0) (l .1) (l .2))
 
 pub not-3 : {d : Design} → Within d → DesignFault d 3 → ⊥
 not-3 w (DesignFault.inputs l) = omega (arith, w .few-inputs, l)
@@ -133,6 +135,10 @@ sound-not-3 w = not-3 (record { few-inputs = w .few-inputs; few-latches = w .few
 
 pub sound-not-5 : {d : Design} → Sound d → DesignFault d 5 → ⊥
 sound-not-5 w = not-5 (λ i h. record { one = w .firsts i h; two = w .seconds i h }) (w .reads) (w .enables) (w .clears) (w .shows)
+
+-- a sound design without any loop is accepted, as it was before dead cells were told apart
+pub accepted-before : {d : Design} → Sound d → ((i : ℕ) → OnLoop d i → ⊥) → Accepted d
+accepted-before w free = accepted-of (sound-not-3 w) (sound-not-5 w) (λ i p q. free i p)
 
 -- what a search of the nets finds
 pub over-cell : {d : Design} (i : ℕ) → i < d .count → (NetsBelow d (netsOf d) i → ⊥) → DesignFault d 5

@@ -88,3 +88,12 @@ count-witness f g (suc n) h = go (λ l. count-witness f g n l) (f n) (g n) refl 
     go rec false true p q = (n, omega arith, rw q tt, λ t. rw p at t)
     go rec true b p q = let x = rec (omega (arith, ap bit p, bit-one (g n))) in (x .0, omega (arith, x .1), x .2, x .3)
     go rec false false p q = let x = rec (omega (arith, ap bit p, ap bit q)) in (x .0, omega (arith, x .1), x .2, x .3)
+
+-- nothing passes, or something does
+pub count-none : (f : ℕ → Bool) (n : ℕ) → ((i : ℕ) → i < n → f i ≡ false) → count f n ≡ 0
+unfolding count
+count-none f zero h = refl
+count-none f (suc n) h = omega (arith, ap bit (h n (omega arith)), count-none f n (λ i l. h i (omega arith)))
+
+pub count-some : (f : ℕ → Bool) (n : ℕ) → 0 < count f n → (i : ℕ) × (i < n) × T (f i)
+count-some f n h = let x = count-witness (λ _. false) f n (omega (arith, count-none (λ _. false) n (λ i l. refl))) in (x .0, x .1, x .2)

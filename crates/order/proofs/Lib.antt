@@ -1,2 +1,4 @@
 pub mod NoLoop
 pub mod Marking
+pub mod Planning
+pub mod Determined

@@ -1,7 +1,7 @@
-// An order in which the cells can be evaluated one after another.
+// An order in which the kept cells can be evaluated one after another.
 //
-// Of the cells that are not placed yet, the lowest that reads only sources and placed cells is placed next. Where none can be placed,
-// each of those left reads another of them, so some of them lie on a loop.
+// Of the kept cells that are not placed yet, the lowest that reads only sources and placed cells is placed next. Where none can be
+// placed, each of those left reads one of them, so some of them lie on a loop.
 ghost use mathlib.Core.Path.{_≡_};
 ghost use mathlib.Core.Bool.{true, false};
 ghost use Prim.Native.Nat.{_+_, _-_, _<_};
@@ -13,7 +13,7 @@ ghost use Rattle.limits.specs.Meaning.Limits.{mostCells};
 ghost use Rattle.netlist.specs.Meaning.Faults.{DesignFault};
 ghost use Rattle.order.specs.Meaning.Order.{Plans};
 ghost use Rattle.netlist.specs.Working.Sound.{Sound, readyNet, readyGate};
-ghost use Rattle.order.specs.Working.Placing.{NextReady, Placed};
+ghost use Rattle.order.specs.Working.Placing.{NextReady};
 use limits::Image;
 use netlist::Design;
 use netlist::Gate;
@@ -26,14 +26,15 @@ pub fn fault_of(d: Design) -> u8
     plan.number
 }
 
-// The lowest number that applies to a design, or 0 and an order of its cells.
+// The lowest number that applies to a design, or 0 and an order of its kept cells.
 pub struct Plan {
     pub number: u8,
+    pub kept: usize,
     pub cells: [u16; Image::MOST_CELLS],
 }
 
 pub fn levelize(d: Design) -> Plan
-    ensures { λ r. ⌜ Plans d (r .number) (r .cells) ⌝ }
+    ensures { λ r. ⌜ Plans d (r .number) (r .kept) (r .cells) ⌝ }
 {
     if ranges::over_limit(d) {
         return no_plan(3);
@@ -41,47 +42,44 @@ pub fn levelize(d: Design) -> Plan
     if ranges::net_over(d) {
         return no_plan(5);
     }
-    let p = place(d);
-    if p.placed < d.count as usize {
-        return no_plan(9);
-    }
-    let cells = p.cells;
-    Plan { number: 0, cells }
+    place(d)
 }
 
 fn no_plan(number: u8) -> Plan
-    ensures { λ r. ⌜ (r .number ≡ number) × Zero (r .cells) ⌝ }
+    ensures { λ r. ⌜ (r .number ≡ number) × (r .kept ≡ 0) × Zero (r .cells) ⌝ }
 {
     Plan {
         number,
+        kept: 0,
         cells: [0u16; Image::MOST_CELLS],
     }
 }
 
-struct Placing {
-    cells: [u16; Image::MOST_CELLS],
-    placed: usize,
-}
-
-// Places one cell after another until none is left, or none can be placed.
-fn place(d: Design) -> Placing
+// Places one kept cell after another until none is left, or none can be placed. Dead cells are marked from the start.
+fn place(d: Design) -> Plan
     requires { ⌜ Sound d ⌝ }
-    ensures { λ r. ⌜ Placed d (r .cells) (r .placed) ⌝ }
+    ensures { λ r. ⌜ Plans d (r .number) (r .kept) (r .cells) ⌝ }
 {
+    let found = kept::find_kept(d);
+    let kept = found.kept;
     let count = d.count as usize;
     let mut cells = [0u16; Image::MOST_CELLS];
-    let mut marks = [false; Image::MOST_CELLS];
+    let mut marks = found.dead;
     let mut k = 0;
-    while k < count {
+    while k < kept {
         let i = next_ready(d, marks);
         if i == count {
-            return Placing { cells, placed: k };
+            return no_plan(9);
         }
         cells[k] = i as u16;
         marks[i] = true;
         k += 1;
     }
-    Placing { cells, placed: k }
+    Plan {
+        number: 0,
+        kept,
+        cells,
+    }
 }
 
 // The lowest unmarked cell that reads ready nets alone, or the count where there is none.

@@ -1,22 +1,24 @@
 -- The images of the sheet, computed.
 use Prim.Native.Nat.{ℕ, _-_}
+use mathlib.Core.Path.{_≡_, refl}
 use mathlib.Core.Bool.{Bool, _&&_}
 use mathlib.Core.List.{List, [], _∷_}
 use native.Mathlib.Omega.{arith}
 use lib.Dec.{T, eqb, eqb→eq, lit<, lit≤}
 use Rattle.numbers.specs.Meaning.Bits.{horner}
 use Rattle.memory.specs.Meaning.Lists.{listOf}
-use Rattle.memory.specs.Meaning.Refusals.{First}
+use Rattle.memory.specs.Meaning.Refusals.{Free, First}
 use Rattle.memory.proofs.Table.{first-of-lowest}
 use Rattle.memory.proofs.Computed.{every, every-at, and-left, and-right, passes, pass}
 use Rattle.netlist.specs.Meaning.Gates.{truth}
-use Rattle.netlist.specs.Meaning.Nets.{settled, nextState, outputs}
+use Rattle.netlist.specs.Meaning.Kept.{any, keptWithin}
+use Rattle.netlist.specs.Meaning.Nets.{settled, value, nextState, outputs}
 use Rattle.reader.specs.Meaning.Fields.{bitAt, fieldAt}
 use Rattle.format.specs.Meaning.Format.{versionIn, decoded}
 use Rattle.format.specs.Meaning.Faults.{ImageFault}
 use Rattle.format.proofs.Refusals.{image-numbered}
 use Rattle.sheet.specs.Meaning.Sheet.{imageP, imageQ, imageM, imageH, imageRing, imagePad, Drawn}
-use Rattle.sheet.proofs.Testing.{fieldTests, flatTests, clean-7, nine, flat-free, of-version-1}
+use Rattle.sheet.proofs.Testing.{fieldTests, flatTests, clean-7, flat-free, of-version-1}
 
 -- a design of one input, one flip-flop and one output
 module _ (b : List ℕ) (next out : ℕ → ℕ → ℕ) where
@@ -43,24 +45,29 @@ module _ (b : List ℕ) (next out : ℕ → ℕ → ℕ) where
   }
 
 pub p-drawn : Drawn imageP (λ s v. v) (λ s v. s)
-unfolding decoded fieldAt horner bitAt listOf settled truth
+unfolding decoded fieldAt horner bitAt listOf value settled any keptWithin truth
 p-drawn = drawn imageP (λ s v. v) (λ s v. s) tt
 
 pub q-drawn : Drawn imageQ (λ s v. 1 - v) (λ s v. 1 - s)
-unfolding decoded fieldAt horner bitAt listOf settled truth
+unfolding decoded fieldAt horner bitAt listOf value settled any keptWithin truth
 q-drawn = drawn imageQ (λ s v. 1 - v) (λ s v. 1 - s) tt
 
 pub m-drawn : Drawn imageM (λ s v. v) (λ s v. v)
-unfolding decoded fieldAt horner bitAt listOf settled truth
+unfolding decoded fieldAt horner bitAt listOf value settled any keptWithin truth
 m-drawn = drawn imageM (λ s v. v) (λ s v. v) tt
 
 pub h-drawn : Drawn imageH (λ s v. s) (λ s v. s)
-unfolding decoded fieldAt horner bitAt listOf settled truth
+unfolding decoded fieldAt horner bitAt listOf value settled any keptWithin truth
 h-drawn = drawn imageH (λ s v. s) (λ s v. s) tt
 
-pub ring-nine : First (ImageFault imageRing) 9
-unfolding decoded fieldAt horner bitAt listOf
-ring-nine = nine imageRing tt
+-- its one cell, which reads its own net, is dead
+pub ring-accepted : Free (ImageFault imageRing)
+unfolding decoded fieldAt horner bitAt listOf any keptWithin
+ring-accepted = flat-free imageRing tt (of-version-1 imageRing tt)
+
+pub ring-value : value (decoded imageRing) 0 0 2 ≡ 0
+unfolding decoded fieldAt horner bitAt listOf value any keptWithin
+ring-value = refl
 
 pad-fields : T (passes (fieldTests imagePad))
 unfolding fieldAt horner bitAt

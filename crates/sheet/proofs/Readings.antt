@@ -7,7 +7,8 @@ use Rattle.numbers.specs.Meaning.Bits.{horner}
 use Rattle.memory.specs.Meaning.Lists.{listOf}
 use Rattle.memory.proofs.Table.{first-of-lowest}
 use Rattle.netlist.specs.Meaning.Gates.{truth}
-use Rattle.netlist.specs.Meaning.Nets.{settled}
+use Rattle.netlist.specs.Meaning.Kept.{any, keptWithin}
+use Rattle.netlist.specs.Meaning.Nets.{settled, value}
 use Rattle.reader.specs.Meaning.Fields.{bitAt, fieldAt}
 use Rattle.format.specs.Meaning.Version.{plainTo}
 use Rattle.format.specs.Meaning.Format.{decoded}
@@ -16,7 +17,7 @@ use Rattle.format.proofs.Refusals.{image-numbered, clean-2}
 use Rattle.machine.specs.declared.Pair.{Pair}
 use Rattle.machine.specs.Meaning.Rounds.{A, Unchanged, FirstUnchanged}
 use Rattle.machine.specs.Meaning.Tables.{In, Ok}
-use Rattle.sheet.specs.Meaning.Readings.{imageLatches, imageTwo, imageTwoP, imageTwoOver, imageTwoRing, shifts, four, Readings}
+use Rattle.sheet.specs.Meaning.Readings.{imageLatches, imageTwo, imageTwoP, imageTwoOver, imageTwoRing, imageTwoDead, imageShown, imageCleared, shifts, four, Readings}
 use Rattle.sheet.proofs.Testing.{clean-8, nine, flat-free, nineteen}
 
 -- flip-flop 0 has enable net 4
@@ -52,7 +53,7 @@ second-round = record {
     earlier (suc i) h u = omega arith
 
 pub readings : Readings
-unfolding decoded fieldAt horner bitAt listOf settled truth plainTo
+unfolding decoded fieldAt horner bitAt listOf value settled any keptWithin truth plainTo
 readings = record {
   buf-values = refl;
   not-values = refl;
@@ -85,5 +86,9 @@ readings = record {
   two-p-nineteen = nineteen imageTwoP tt;
   over-eight = first-of-lowest image-numbered (record { applies = ImageFault.over (lit< tt); lower = clean-8 imageTwoOver tt tt });
   ring-nine = nine imageTwoRing tt;
+  shown-nine = nine imageShown tt;
+  cleared-nine = nine imageCleared tt;
+  dead-nineteen = nineteen imageTwoDead tt;
+  idle-value = refl;
   second-round = second-round;
 }

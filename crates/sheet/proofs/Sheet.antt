@@ -12,7 +12,7 @@ use Rattle.machine.specs.Working.Pairs.{SameMachine}
 use Rattle.machine.proofs.Transfer.{same-there}
 use Rattle.compare.specs.Meaning.Designs.{machineOf}
 use Rattle.sheet.specs.Meaning.Sheet.{imageH, imageEmpty, FoundSame, TwoOfFour, BenchSheet}
-use Rattle.sheet.proofs.Images.{p-drawn, q-drawn, m-drawn, h-drawn, ring-nine, pad-seven}
+use Rattle.sheet.proofs.Images.{p-drawn, q-drawn, m-drawn, h-drawn, ring-accepted, ring-value, pad-seven}
 use Rattle.sheet.proofs.Models.{empty, one, pair, inside}
 use Rattle.sheet.proofs.Models as M
 use Rattle.sheet.proofs.Carried.{two-each, alike, alike-back, alignable, alignable-back, trace, list, same, apart}
@@ -55,6 +55,7 @@ bench-sheet = record {
   hh-two = hh-two;
   empty-accepted = empty-read;
   empty-same = empty-same;
-  ring-nine = ring-nine;
+  ring-accepted = ring-accepted;
+  ring-value = ring-value;
   pad-seven = pad-seven;
 }

@@ -2,10 +2,10 @@
 use Prim.Native.Nat.{ℕ, _+_, _-_, _*_, _<_, _≤_}
 use mathlib.Core.Path.{_≡_, subst}
 use mathlib.Core.Logic.{_⊎_, inl, inr, ⊎-elim}
-use mathlib.Core.Bool.{Bool, true, _&&_, _||_}
+use mathlib.Core.Bool.{Bool, true, _&&_, _||_, not}
 use mathlib.Core.List.{List, [], _∷_}
 use native.Mathlib.Omega.{arith}
-use lib.Dec.{T, eqb, eqb→eq, leb, leb→le, ltb, ltb→lt}
+use lib.Dec.{T, T-not, eqb, eqb→eq, leb, leb→le, ltb, ltb→lt}
 use lib.ListN.{length, getD}
 use Rattle.numbers.proofs.Order.{not-lt}
 use Rattle.memory.specs.Meaning.Refusals.{Free, First}
@@ -15,8 +15,10 @@ use Rattle.memory.proofs.Computed.{every, and-left, and-right, or-right, or-spl
 use Rattle.netlist.specs.declared.Design.{Design}
 use Rattle.limits.specs.Meaning.Limits.{mostInputs, mostLatches, mostOutputs, mostCells}
 use Rattle.netlist.specs.Meaning.Gates.{firstOf, secondOf}
-use Rattle.netlist.specs.Meaning.Nets.{cellBase, gateAt}
+use Rattle.netlist.specs.Meaning.Cells.{cellBase, gateAt}
 use Rattle.netlist.specs.Meaning.Loops.{Reads, Path}
+use Rattle.netlist.specs.Meaning.Kept.{Kept, isKept}
+use Rattle.netlist.proofs.Kept.{is-kept, kept-is}
 use Rattle.reader.specs.Meaning.Fields.{bitAt, fieldAt}
 use Rattle.format.specs.Meaning.Format.{versionIn, inputsIn, latchesIn, outputsIn, countIn, netsIn, bitsIn, bytesIn, kindIn, firstIn, secondIn, dataIn, enableIn, clearIn, shownIn, decoded}
 use Rattle.format.specs.Meaning.Faults.{ImageFault}
@@ -45,13 +47,18 @@ endTests b = zeroPad b ∷ leb (length b) (bytesIn b) ∷ []
 abbrev pub readsNone : Design → ℕ → Bool
 readsNone d i = ltb (firstOf (gateAt d i)) (cellBase d) && ltb (secondOf (gateAt d i)) (cellBase d)
 
--- 9 applies and no lower number does: cell 0 reads its own net
+-- 9 applies and no lower number does: cell 0 reads its own net, and is kept
 abbrev pub ringTests : List ℕ → List Bool
-ringTests b = passes (fieldTests b) ∷ passes (endTests b) ∷ ltb 0 (decoded b .count) ∷ eqb (firstOf (gateAt (decoded b) 0)) (cellBase (decoded b) + 0) ∷ []
+ringTests b =
+    passes (fieldTests b) ∷ passes (endTests b) ∷ ltb 0 (decoded b .count) ∷ eqb (firstOf (gateAt (decoded b) 0)) (cellBase (decoded b) + 0)
+    ∷ isKept (decoded b) 0 ∷ []
 
--- 1 to 9 find nothing: no cell reads a cell
+-- 1 to 9 find nothing: no kept cell reads a cell
+abbrev flat : Design → ℕ → Bool
+flat d i = readsNone d i || not (isKept d i)
+
 abbrev pub flatTests : List ℕ → List Bool
-flatTests b = passes (fieldTests b) ∷ passes (endTests b) ∷ every (readsNone (decoded b)) (decoded b .count) ∷ []
+flatTests b = passes (fieldTests b) ∷ passes (endTests b) ∷ every (flat (decoded b)) (decoded b .count) ∷ []
 
 -- 19 applies and no lower number does: the version is 2, and each flip-flop has enable net 1 and clear net 0
 abbrev hasPlain : List ℕ → ℕ → Bool
@@ -112,7 +119,7 @@ module _ (b : List ℕ) (r : T (passes (fieldTests b))) where
   clean-9 e = clean-more (ImageFault b) 8 (clean-8 (pass (endTests b) 0 e)) (no-8 (leb→le (length b) (bytesIn b) (pass (endTests b) 1 e)))
 
 pub nine : (b : List ℕ) → T (passes (ringTests b)) → First (ImageFault b) 9
-nine b t = first-of-lowest image-numbered (record { applies = ImageFault.loop 0 (Path.one (record { from = some; to = some; by = inl own })); lower = clean-9 b (pass (ringTests b) 0 t) (pass (ringTests b) 1 t) })
+nine b t = first-of-lowest image-numbered (record { applies = ImageFault.loop 0 (Path.one (record { from = some; to = some; by = inl own })) (is-kept (decoded b) 0 some (pass (ringTests b) 4 t)); lower = clean-9 b (pass (ringTests b) 0 t) (pass (ringTests b) 1 t) })
   where
     some : 0 < decoded b .count
     some = ltb→lt 0 (decoded b .count) (pass (ringTests b) 2 t)
@@ -121,22 +128,26 @@ nine b t = first-of-lowest image-numbered (record { applies = ImageFault.loop 0 
     own = eqb→eq (firstOf (gateAt (decoded b) 0)) (cellBase (decoded b) + 0) (pass (ringTests b) 3 t)
 
 module _ (b : List ℕ) (t : T (passes (flatTests b))) where
-  no-read : {i j : ℕ} → Reads (decoded b) i j → ⊥
-  no-read {i} {j} q =
+  no-read : {i j : ℕ} → Reads (decoded b) i j → T (readsNone (decoded b) i) → ⊥
+  no-read {i} {j} q u =
       let first = firstOf (gateAt (decoded b) i) in
       let second = secondOf (gateAt (decoded b) i) in
       let base = cellBase (decoded b) in
-      let u = every-at (readsNone (decoded b)) (decoded b .count) i (pass (flatTests b) 2 t) (q .from) in
       let x = ltb→lt first base (and-left (ltb first base) (ltb second base) u) in
       let y = ltb→lt second base (and-right (ltb first base) (ltb second base) u) in
       ⊎-elim (λ z. omega (arith, x, z)) (λ z. omega (arith, y, z)) (q .by)
 
-  no-path : {i j : ℕ} → Path (decoded b) i j → ⊥
-  no-path (Path.one q) = no-read q
-  no-path (Path.more q p) = no-read q
+  flat-read : {i j : ℕ} → Reads (decoded b) i j → Kept (decoded b) i → ⊥
+  flat-read {i} {j} q k =
+      ⊎-elim (no-read q) (λ z. T-not (isKept (decoded b) i) z (kept-is (decoded b) i k))
+      (or-split (readsNone (decoded b) i) (not (isKept (decoded b) i)) (every-at (flat (decoded b)) (decoded b .count) i (pass (flatTests b) 2 t) (q .from)))
+
+  no-path : {i j : ℕ} → Path (decoded b) i j → Kept (decoded b) i → ⊥
+  no-path (Path.one q) = flat-read q
+  no-path (Path.more q p) = flat-read q
 
   no-loop : ImageFault b 9 → ⊥
-  no-loop (ImageFault.loop i p) = no-path p
+  no-loop (ImageFault.loop i p k) = no-path p k
 
   clean-10 : Clean (ImageFault b) 10
   clean-10 = clean-more (ImageFault b) 9 (clean-9 b (pass (flatTests b) 0 t) (pass (flatTests b) 1 t)) no-loop

@@ -19,7 +19,7 @@ module _ (d : Design) (n m : ℕ) (none : Free (TableFault d n m)) where
   pub sound-table : Sound d
   sound-table = sound-of (table-accepted d n m none)
 
-  pub fillable : {number : ℕ} {l next out : List ℕ} → Plans d number l → Cleared n next → Cleared m out → Fillable d l next out
+  pub fillable : {number kept : ℕ} {l next out : List ℕ} → Plans d number kept l → Cleared n next → Cleared m out → Fillable d kept l next out
   fillable plan p q = record {
     ready = record { sound = sound-table; ordered = plan .ordered (zero-number (plan .first) (table-accepted d n m none)) };
     room-next = rw (p .size) (room-next d n m none);

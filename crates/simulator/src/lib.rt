@@ -26,8 +26,7 @@ pub fn clock(d: Design, state: usize, vector: usize) -> Clocked
     if evaluator::power(d.inputs) <= vector {
         return Clocked::Refused(14);
     }
-    let cells = plan.cells;
-    let s = evaluator::step(d, cells, state, vector);
+    let s = evaluator::step(d, plan, state, vector);
     Clocked::Step {
         next: s.next,
         out: s.out,
@@ -54,8 +53,7 @@ pub fn tabulate(d: Design, next: &mut [u8], out: &mut [u8]) -> Tabulated
     if number != 0 {
         return Tabulated::Refused(number);
     }
-    let cells = plan.cells;
-    tables::fill(d, cells, next, out);
+    tables::fill(d, plan, next, out);
     Tabulated::Table {
         states: evaluator::power(d.latches),
         vectors: evaluator::power(d.inputs),
@@ -107,10 +105,8 @@ pub fn tabulate_both(
     if number != 0 {
         return TabulatedBoth::Refused(number);
     }
-    let old_cells = old_plan.cells;
-    tables::fill(old, old_cells, old_next, old_out);
-    let new_cells = new_plan.cells;
-    tables::fill(new, new_cells, new_next, new_out);
+    tables::fill(old, old_plan, old_next, old_out);
+    tables::fill(new, new_plan, new_next, new_out);
     TabulatedBoth::Both {
         old: evaluator::power(old.latches),
         new: evaluator::power(new.latches),

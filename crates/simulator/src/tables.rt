@@ -7,8 +7,8 @@ ghost use Rattle.netlist.specs.Meaning.Faults.{DesignFault};
 ghost use Rattle.netlist.specs.Working.Sound.{Sound};
 ghost use Rattle.simulator.specs.Meaning.Tables.{sizeOf, TableFault, InterfaceFault, BothFault};
 ghost use Rattle.simulator.specs.Working.Filling.{Fillable, FilledTables};
-use limits::Image;
 use netlist::Design;
+use order::Plan;
 
 // How many bytes the table slices of a design have.
 pub struct Room {
@@ -66,8 +66,8 @@ fn interface_number(old: Design, new: Design) -> u8
 }
 
 // Every clock of a design, in cleared slices.
-pub(crate) fn fill(d: Design, cells: [u16; Image::MOST_CELLS], next: &mut [u8], out: &mut [u8])
-    requires { ⌜ Fillable d cells (now next) (now out) ⌝ }
+pub(crate) fn fill(d: Design, plan: Plan, next: &mut [u8], out: &mut [u8])
+    requires { ⌜ Fillable d (plan .kept) (plan .cells) (now next) (now out) ⌝ }
     ensures { λ _. ⌜ FilledTables d (length (now (next .entry))) (length (now (out .entry))) (sizeOf d) (now (next .exit)) (now (out .exit)) ⌝ }
 {
     let vectors = evaluator::power(d.inputs);
@@ -76,7 +76,7 @@ pub(crate) fn fill(d: Design, cells: [u16; Image::MOST_CELLS], next: &mut [u8], 
     while k < end {
         let s = k / vectors;
         let v = k % vectors;
-        let t = evaluator::step(d, cells, s, v);
+        let t = evaluator::step(d, plan, s, v);
         next[k] = t.next;
         out[k] = t.out;
         k += 1;

@@ -13,6 +13,7 @@
 //   length_of x111100008060                 the image
 //   read x111100008060
 //   fault_of 1,1,1,0/2,0*6/1*7/0*7/3        P in memory
+//   levelize x11110110100080C0004028        Q, which has cells
 //   clock x111100008060 0,1                 the state and the vector
 //   write x111100008060 7/6                 what the slices hold at entry, and the length of each, in the order of the call
 //   tabulate x111100008060 7/4,4
@@ -95,10 +96,10 @@ fn ask(line: &[u8]) {
 fn ask_call(line: &[u8]) {
     let end = find(line, 0, b' ');
     let call = calls::call_of(
-        b" compare tabulate_both tabulate write clock fault_of length_of read map_alike map_alignable trace_of list_of judge earlier_number ",
+        b" compare tabulate_both tabulate write clock fault_of levelize length_of read map_alike map_alignable trace_of list_of judge earlier_number ",
         slices::cut(line, 0, end),
     );
-    let old = designs::drawn_at(line, end, call <= calls::FAULT_OF);
+    let old = designs::drawn_at(line, end, call <= calls::LEVELIZE);
     let new = designs::drawn_at(line, old.next, call <= calls::TABULATE_BOTH);
     let mut numbers = [0u16; NUMBERS];
     let f = words::numbers(line, new.next, &mut numbers);
@@ -116,7 +117,7 @@ fn ask_call(line: &[u8]) {
 // Whether a call takes so many numbers and so many bytes.
 fn takes(call: usize, numbers: usize, bytes: usize) -> bool {
     match call {
-        calls::FAULT_OF => numbers == 0 && bytes == 0,
+        calls::FAULT_OF | calls::LEVELIZE => numbers == 0 && bytes == 0,
         calls::LENGTH_OF | calls::READ => numbers == 0,
         calls::COMPARE..=calls::CLOCK | calls::EARLIER_NUMBER => bytes == 0,
         _ => true,
@@ -132,6 +133,7 @@ fn answer(call: usize, old: Design, new: Design, n: [u16; NUMBERS], bytes: &[u8]
         calls::WRITE => ask_write(old, n),
         calls::CLOCK => ask_clock(old, n),
         calls::FAULT_OF => show::item(b"fault ", order::fault_of(old) as usize),
+        calls::LEVELIZE => ask_levelize(old),
         calls::LENGTH_OF => show::measured(image::length_of(bytes)),
         calls::READ => show::reading(image::read(bytes)),
         calls::MAP_ALIKE..=calls::JUDGE => ask_tables(call, n, bytes),
@@ -235,6 +237,14 @@ fn ask_write(design: Design, n: [u16; NUMBERS]) {
 fn ask_clock(design: Design, n: [u16; NUMBERS]) {
     let clocked = simulator::clock(design, wide(n[0]), wide(n[1]));
     show::clocked(clocked);
+}
+
+fn ask_levelize(design: Design) {
+    let plan = order::levelize(design);
+    show::item(b"number ", plan.number as usize);
+    show::item(b" kept ", plan.kept);
+    let cells = plan.cells;
+    show::numbers(&cells);
 }
 
 fn ask_earlier_number(n: [u16; NUMBERS]) {

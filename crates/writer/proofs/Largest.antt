@@ -66,7 +66,7 @@ module _ (e : ℕ) where
   accepted q n (DesignFault.enable k h l) = omega (arith, l, getD-replicate mostLatches k e 0 h)
   accepted q n (DesignFault.clear k h l) = omega (arith, l, all-same {A = ℕ} 0 mostLatches k)
   accepted q n (DesignFault.shown k h l) = omega (arith, l, all-same {A = ℕ} 0 mostOutputs k)
-  accepted q n (DesignFault.loop i p) = no-loop p
+  accepted q n (DesignFault.loop i p k) = no-loop p
 
 -- the largest of version 2, of which two bits are left in the last byte
 abbrev pub fullDesign : Design

@@ -37,7 +37,7 @@ module _ (b : List ℕ) (only : (n : ℕ) → (n ≡ 19 → ⊥) → ImageFault 
   w = decodes b (within-limits (λ n f. below n (omega (arith, f .1)) (f .0)))
 
   accepted : Accepted (decoded b)
-  accepted = accepted-of (λ f. below 3 (lit< tt) (image-3 b (decoded b) w f)) (λ f. below 5 (lit< tt) (image-5 b (decoded b) w f)) (λ i p. below 9 (lit< tt) (ImageFault.loop i p))
+  accepted = accepted-of (λ f. below 3 (lit< tt) (image-3 b (decoded b) w f)) (λ f. below 5 (lit< tt) (image-5 b (decoded b) w f)) (λ i p k. below 9 (lit< tt) (ImageFault.loop i p k))
 
   plain-design : ImageFault b 19 → versionOf (decoded b) ≡ 1
   plain-design (ImageFault.needless v p) =

@@ -60,7 +60,9 @@ pub record Drawings : Type 0 where
   pub eight-latches : RefusedBy "aag 8 0 8 0 0\n" 3
   pub nine-outputs : RefusedBy "aag 1 0 0 9 0\n" 3
   pub many-ands : RefusedBy "aag 300 0 0 0 257\n" 3
-  pub ring : RefusedBy "aag 1 0 0 0 1\n2 3 0\n" 9
+  pub ring : RefusedBy "aag 1 0 0 1 1\n2\n2 3 0\n" 9
+  -- "drawings with a ring left over in such dead logic are sound parts"; its cells stay in the design
+  pub dead-ring : DrawnAs "aag 1 0 0 0 1\n2 3 0\n" (design 0 (And 3 0 ∷ Not 2 ∷ []) [] [])
   -- "It refuses with 17 a line missing or not spelled by the format, a header of other than these five numbers, or a literal above 2M + 1"
   pub no-text : RefusedBy "" 17
   pub no-line : RefusedBy "aag 1 1 0 0 0\n" 17
@@ -84,6 +86,6 @@ pub record Drawings : Type 0 where
   pub header-17-3 : RefusedBy "aag 512 0 0 0\n" 17
   pub header-3-17 : RefusedBy "aag 512 0 0 1 0\nx\n" 3
   pub whole-17-18 : RefusedBy "aag 1 2 0 1 0\n2\n2\n4\n" 17
-  pub whole-18-9 : RefusedBy "aag 2 0 0 0 1\n2 2 4\n" 18
+  pub whole-18-9 : RefusedBy "aag 2 0 0 1 1\n2\n2 2 4\n" 18
   -- "M below I + L + A is no fault of the header line"
   pub low-m : RefusedBy "aag 1 2 0 0 0\n2\n2\n" 18

@@ -1,6 +1,6 @@
 -- The values of the nets in one clock.
 --   mostNets         nets of the largest design
---   Evaluable d l    what a clock needs: sizes and nets in range, and an order l of the cells
+--   Evaluable d n l  what a clock needs: sizes and nets in range, and an order l of the n kept cells
 --   Holds f l        the list l holds f n for every net n
 --   Readable l n w   the first n nets of the list l are places of w, and w holds bits
 --   latchedIn x e c own w k   what flip-flop k takes by the data, enable and clear nets of the lists x, e and c, with the values w
@@ -21,9 +21,9 @@ use Rattle.netlist.specs.Working.Sound.{Sound}
 abbrev pub mostNets : ℕ
 mostNets = 2 + mostInputs + mostLatches + mostCells
 
-pub record Evaluable (d : Design) (l : List ℕ) : Type 0 where
+pub record Evaluable (d : Design) (n : ℕ) (l : List ℕ) : Type 0 where
   pub sound : Sound d
-  pub ordered : Ordered d l
+  pub ordered : Ordered d l n
 
 pub record Holds (f : ℕ → ℕ) (l : List ℕ) : Type 0 where
   pub size : length l ≡ mostNets

@@ -11,9 +11,10 @@ use Rattle.limits.specs.Meaning.Limits.{mostInputs, mostLatches, mostOutputs, m
 use Rattle.netlist.specs.Meaning.Gates.{firstOf, secondOf}
 use Rattle.netlist.specs.Meaning.Nets.{netsOf, gateAt}
 use Rattle.netlist.specs.Meaning.Loops.{OnLoop}
+use Rattle.netlist.specs.Meaning.Kept.{Kept}
 
 -- "Every call that takes a design in memory looks for 3, 5 and 9 in it again": 3 a size over its limit; 5 a net number not below
--- 2 + I + L + G, of a flip-flop its data, enable or clear net; 9 a loop of cells
+-- 2 + I + L + G, of a flip-flop its data, enable or clear net; "9 applies if and only if a loop holds a cell that is kept"
 pub data DesignFault (d : Design) : ℕ → Type 0 where
   inputs : mostInputs < d .inputs → DesignFault d 3
   latches : mostLatches < d .latches → DesignFault d 3
@@ -25,7 +26,7 @@ pub data DesignFault (d : Design) : ℕ → Type 0 where
   enable : (k : ℕ) → k < d .latches → netsOf d ≤ getD (d .enable) k 0 → DesignFault d 5
   clear : (k : ℕ) → k < d .latches → netsOf d ≤ getD (d .clear) k 0 → DesignFault d 5
   shown : (k : ℕ) → k < d .outputs → netsOf d ≤ getD (d .shown) k 0 → DesignFault d 5
-  loop : (i : ℕ) → OnLoop d i → DesignFault d 9
+  loop : (i : ℕ) → OnLoop d i → Kept d i → DesignFault d 9
 
 -- "A design is accepted when 3, 5 and 9 find nothing in it"
 abbrev pub Accepted : Design → Type 0

@@ -1,13 +1,13 @@
 -- Loops of cells.
 --   Reads d i j   cell i reads the net that cell j drives
---   Path d i j    cells that read cells lead from i to j, in one step or more
+--   Path d i j    from cell i to what it reads, and so on, one comes to cell j, in one step or more: against the signal
 --   OnLoop d i    cell i lies on a loop
 use Prim.Native.Nat.{ℕ, _+_, _<_}
 use mathlib.Core.Path.{_≡_}
 use mathlib.Core.Logic.{_⊎_}
 use Rattle.netlist.specs.declared.Design.{Design}
 use Rattle.netlist.specs.Meaning.Gates.{firstOf, secondOf}
-use Rattle.netlist.specs.Meaning.Nets.{cellBase, gateAt}
+use Rattle.netlist.specs.Meaning.Cells.{cellBase, gateAt}
 
 -- "Cells may refer to later cells"; an unread second net is 0 and so no cell's
 pub record Reads (d : Design) (i j : ℕ) : Type 0 where
@@ -19,6 +19,6 @@ pub data Path (d : Design) : ℕ → ℕ → Type 0 where
   one : {i j : ℕ} → Reads d i j → Path d i j
   more : {i j k : ℕ} → Reads d i j → Path d j k → Path d i k
 
--- "No cell may lie on a loop of cells; a flip-flop breaks a loop"
+-- "a flip-flop breaks a loop": it is no cell
 abbrev pub OnLoop : Design → ℕ → Type 0
 OnLoop d i = Path d i i

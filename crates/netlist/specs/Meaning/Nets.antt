@@ -1,36 +1,27 @@
 -- The value of every net of a design, and one clock.
---   cellBase d, netsOf d      the first cell net, and how many nets there are
---   gateAt d i                the gate of cell i
 --   gateValue g f             what the gate g makes of the values f
 --   source d s v n            the value of net n, which no cell drives
 --   settle d f                one round: every cell's net takes what its gate makes of the values f
---   settled d s v r n         the value of net n after r rounds in which every cell takes what it reads
+--   settled d s v r n         the value of net n after r such rounds
+--   isLive d n                net n comes before those of cells, or is that of a kept cell
 --   value d s v n             the value of net n in state s under vector v
---   Satisfies d s v f         the assignment f gives every net what its source or its cell says
+--   Satisfies d s v f         the assignment f gives every net what its source or its kept cell says, and that of a dead cell 0
 --   latched c e x h           what a flip-flop that holds h makes of the values of its clear c, enable e and data x
 --   nextBit, outputBit        what flip-flop k holds after the clock, and what output k shows before it
 --   nextState, outputs        one clock
 --   statesOf d, vectorsOf d   how many states and vectors there are
--- `value` computes and is believed; for a design without loops it is the one assignment with `Satisfies` (proofs/Values).
+-- `value` computes and is believed; on the nets of an accepted design it is the one assignment with `Satisfies` (proofs/Values).
 use Prim.Native.Nat.{ℕ, zero, suc, _+_, _-_, _^_, _<_}
 use mathlib.Core.Path.{_≡_}
-use mathlib.Core.Bool.{cond}
+use mathlib.Core.Bool.{Bool, cond, _||_}
 use lib.Dec.{ltb}
 use lib.ListN.{getD}
 use Rattle.numbers.specs.Meaning.Bits.{bitOf, horner}
 use Rattle.netlist.specs.declared.Gate.{Gate}
 use Rattle.netlist.specs.declared.Design.{Design}
-use Rattle.netlist.specs.Meaning.Gates.{kindOf, firstOf, secondOf, truth, blankCell}
-
--- "Net 0 is constant 0 and net 1 constant 1. Then come I input nets, L flip-flop nets and G cell nets, in order"
-abbrev pub cellBase : Design → ℕ
-cellBase d = 2 + d .inputs + d .latches
-
-abbrev pub netsOf : Design → ℕ
-netsOf d = cellBase d + d .count
-
-abbrev pub gateAt : Design → ℕ → Gate
-gateAt d i = getD (d .cells) i blankCell .gate
+use Rattle.netlist.specs.Meaning.Gates.{kindOf, firstOf, secondOf, truth}
+use Rattle.netlist.specs.Meaning.Kept.{Kept, isKept}
+pub use Rattle.netlist.specs.Meaning.Cells.{cellBase, netsOf, gateAt}
 
 abbrev pub gateValue : Gate → (ℕ → ℕ) → ℕ
 gateValue g f = truth (kindOf g) (f (firstOf g)) (f (secondOf g))
@@ -51,13 +42,17 @@ unfoldable pub settled : Design → ℕ → ℕ → ℕ → ℕ → ℕ
 settled d s v zero n = cond (ltb n (cellBase d)) (source d s v n) 0
 settled d s v (suc r) n = settle d (settled d s v r) n
 
--- no cell of a design without loops lies deeper than there are cells
-abbrev pub value : Design → ℕ → ℕ → ℕ → ℕ
-value d s v = settled d s v (d .count)
+abbrev pub isLive : Design → ℕ → Bool
+isLive d n = ltb n (cellBase d) || isKept d (n - cellBase d)
+
+-- no kept cell of an accepted design lies deeper than there are cells, and none reads a dead one; "A dead cell's value is 0 by rule"
+unfoldable pub value : Design → ℕ → ℕ → ℕ → ℕ
+value d s v n = cond (isLive d n) (settled d s v (d .count) n) 0
 
 pub record Satisfies (d : Design) (s v : ℕ) (f : ℕ → ℕ) : Type 0 where
   pub sources : (n : ℕ) → n < cellBase d → f n ≡ source d s v n
-  pub cells : (i : ℕ) → i < d .count → f (cellBase d + i) ≡ gateValue (gateAt d i) f
+  pub kept : (i : ℕ) → Kept d i → f (cellBase d + i) ≡ gateValue (gateAt d i) f
+  pub dead : (i : ℕ) → i < d .count → (Kept d i → ⊥) → f (cellBase d + i) ≡ 0
 
 -- "Clear 1 makes the next state 0; else enable 1 takes the data; else the bit holds"
 abbrev pub latched : ℕ → ℕ → ℕ → ℕ → ℕ

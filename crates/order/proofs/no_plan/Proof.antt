@@ -5,7 +5,7 @@ use Rattle.order.proofs.no_plan.Statement.{statement}
 use Rattle.order.proofs.no_plan.Tie as tie
 
 returns : tie.Need-returns
-returns c = (refl, λ k _. all-same 0 256 k)
+returns c = (refl, refl, λ k _. all-same 0 256 k)
 
 pub no-plan-spec : {M : Type 1} → statement M
 no-plan-spec = tie.close (tie.spec returns)

@@ -1,5 +1,5 @@
 -- Readings of the definitions for which the bench sheet has no starred line: the values of every kind of gate, the order of bits, enable and clear,
--- images of version 2, and the number of a round.
+-- images of version 2, loops that are kept, and the number of a round.
 --   valuesOf k      what kind k makes of 0 and 0, 0 and 1, 1 and 0, 1 and 1
 --   imageBits       two flip-flops that take the two inputs; the outputs are flip-flop 0 and input 0
 --   latchedOf c e   what clear c and enable e make of data 0 and held 0, 0 and 1, 1 and 0, 1 and 1
@@ -8,8 +8,12 @@
 --   imageTwo        `20 00 00 00`
 --   imageTwoP       P in version 2, with enable net 1 and clear net 0
 --   imageTwoOver    imageTwo and one byte
---   imageTwoRing    a NOT reading its own net, in version 2
+--   imageTwoRing    a NOT reading its own net and shown as an output, in version 2
+--   imageTwoDead    a NOT reading its own net, and read by nothing else, in version 2
 --   imageThree      `30 00 00 00`
+--   imageShown      a NOT reading its own net and shown as an output
+--   imageCleared    a NOT reading its own net; it clears a flip-flop that nothing reads
+--   imageIdle       a NOT of net 0, read by nothing
 --   shifts          a machine of two bits that are shifted by one place at each step, the last one shown
 --   four            the sizes of two such machines
 --   Readings        what the definitions say of these
@@ -18,7 +22,7 @@ use mathlib.Core.Path.{_≡_}
 use mathlib.Core.List.{List, [], _∷_}
 use Rattle.memory.specs.Meaning.Refusals.{Free, First}
 use Rattle.netlist.specs.Meaning.Gates.{truth}
-use Rattle.netlist.specs.Meaning.Nets.{latched}
+use Rattle.netlist.specs.Meaning.Nets.{value, latched}
 use Rattle.simulator.specs.Meaning.Clock.{IsStep}
 use Rattle.format.specs.Meaning.Version.{versionOf}
 use Rattle.format.specs.Meaning.Format.{decoded}
@@ -51,10 +55,22 @@ abbrev pub imageTwoOver : List ℕ
 imageTwoOver = 0x20 ∷ 0x00 ∷ 0x00 ∷ 0x00 ∷ 0x00 ∷ []
 
 abbrev pub imageTwoRing : List ℕ
-imageTwoRing = 0x20 ∷ 0x00 ∷ 0x00 ∷ 0x90 ∷ 0x10 ∷ 0x00 ∷ []
+imageTwoRing = 0x20 ∷ 0x01 ∷ 0x00 ∷ 0x90 ∷ 0x10 ∷ 0x00 ∷ 0x04 ∷ []
+
+abbrev pub imageTwoDead : List ℕ
+imageTwoDead = 0x20 ∷ 0x00 ∷ 0x00 ∷ 0x90 ∷ 0x10 ∷ 0x00 ∷ []
 
 abbrev pub imageThree : List ℕ
 imageThree = 0x30 ∷ 0x00 ∷ 0x00 ∷ 0x00 ∷ []
+
+abbrev pub imageShown : List ℕ
+imageShown = 0x10 ∷ 0x01 ∷ 0x00 ∷ 0x90 ∷ 0x10 ∷ 0x00 ∷ 0x04 ∷ []
+
+abbrev pub imageCleared : List ℕ
+imageCleared = 0x20 ∷ 0x10 ∷ 0x00 ∷ 0x90 ∷ 0x18 ∷ 0x00 ∷ 0x00 ∷ 0x01 ∷ 0x01 ∷ 0x80 ∷ []
+
+abbrev pub imageIdle : List ℕ
+imageIdle = 0x10 ∷ 0x00 ∷ 0x00 ∷ 0x90 ∷ 0x00 ∷ 0x00 ∷ []
 
 abbrev pub shifts : Machine
 shifts = record { next = λ s v. s / 2 + 2 * v; out = λ s v. s % 2 }
@@ -106,5 +122,11 @@ pub record Readings : Type 0 where
   -- "after all other image faults": 19 applies to these two as well
   pub over-eight : First (ImageFault imageTwoOver) 8
   pub ring-nine : First (ImageFault imageTwoRing) 9
+  -- "9 applies if and only if a loop holds a cell that is kept": by an output, and by the clear net of a flip-flop. Where none is, 19 is first
+  pub shown-nine : First (ImageFault imageShown) 9
+  pub cleared-nine : First (ImageFault imageCleared) 9
+  pub dead-nineteen : First (ImageFault imageTwoDead) 19
+  -- "A dead cell's value is 0 by rule": this one lies on no loop, and its gate would make 1
+  pub idle-value : value (decoded imageIdle) 0 0 2 ≡ 0
   -- "the number of the first round that changes nothing. Making A1 from A0 is round 1": here round 1 still drops pairs, and round 2 does not
   pub second-round : FirstUnchanged (A shifts shifts (Ok four)) (In four) 2

@@ -13,7 +13,7 @@ use Prim.Native.Nat.{ℕ, _-_, _<_}
 use mathlib.Core.Path.{_≡_}
 use mathlib.Core.List.{List, [], _∷_}
 use Rattle.memory.specs.Meaning.Refusals.{Free, First}
-use Rattle.netlist.specs.Meaning.Nets.{outputs}
+use Rattle.netlist.specs.Meaning.Nets.{value, outputs}
 use Rattle.simulator.specs.Meaning.Clock.{IsStep}
 use Rattle.format.specs.Meaning.Format.{decoded}
 use Rattle.format.specs.Meaning.Faults.{ImageFault}
@@ -131,6 +131,8 @@ pub record BenchSheet : Type 0 where
   -- "`10 00 00 00` with itself: Same, empty list"
   pub empty-accepted : Free (ImageFault imageEmpty)
   pub empty-same : FoundSame imageEmpty imageEmpty []
-  -- "`10 00 00 90 10 00`, a NOT reading its own net: 9. `10 00 00 01`: 7"
-  pub ring-nine : First (ImageFault imageRing) 9
+  -- "The NOT on its own net in 01's sheet, read by nothing, is now accepted"; "A dead cell's value is 0 by rule"
+  pub ring-accepted : Free (ImageFault imageRing)
+  pub ring-value : value (decoded imageRing) 0 0 2 ≡ 0
+  -- "`10 00 00 01`: 7"
   pub pad-seven : First (ImageFault imagePad) 7

@@ -23,13 +23,13 @@ returns-3 : tie.Need-returns-3
 returns-3 c = record { keeps = (clock-14 _ _ _ (c .before .before .before .before .before .before .levelize .ensures .first .none (c .before .before .before .before .if1 .left)) (ClockFault.vector (rw (c .before .power2 .ensures .0) at (c .if3 .taken))), tt) }
 
 step-requires : tie.Need-step-requires
-step-requires c κs = record { sound = sound-of (c .before .before .before .before .before .before .before .levelize .ensures .first .none (c .before .before .before .before .before .if1 .left)); ordered = c .before .before .before .before .before .before .before .levelize .ensures .ordered (c .before .before .before .before .before .if1 .left) }
+step-requires c κs = record { sound = sound-of (c .before .before .before .before .before .before .levelize .ensures .first .none (c .before .before .before .before .if1 .left)); ordered = c .before .before .before .before .before .before .levelize .ensures .ordered (c .before .before .before .before .if1 .left) }
 
 returns-4 : tie.Need-returns-4
 returns-4 c =
-    let none = c .before .before .before .before .before .before .before .before .levelize .ensures .first .none (c .before .before .before .before .before .before .if1 .left) in
+    let none = c .before .before .before .before .before .before .before .levelize .ensures .first .none (c .before .before .before .before .before .if1 .left) in
     record {
-      keeps = (clock-free _ _ _ none (rw (c .before .before .before .before .before .power .ensures .0) at (c .before .before .before .before .if2 .left)) (rw (c .before .before .before .power2 .ensures .0) at (c .before .before .if3 .left)), record { next = c .step .ensures .0; out = c .step .ensures .1 });
+      keeps = (clock-free _ _ _ none (rw (c .before .before .before .before .power .ensures .0) at (c .before .before .before .if2 .left)) (rw (c .before .before .power2 .ensures .0) at (c .before .if3 .left)), record { next = c .step .ensures .0; out = c .step .ensures .1 });
     }
 
 pub clock-spec : {M : Type 1} → statement M

@@ -16,20 +16,20 @@ returns c =
     }
 
 fill-requires : tie.Need-fill-requires
-fill-requires c κs = fillable _ _ _ (c .before .before .before .before .before .before .before .before .before .before .before .before .table-number .ensures .none (c .before .before .before .if1 .left)) (c .before .before .before .before .before .before .before .before .before .before .before .before .before .levelize .ensures) (c .before .before .before .before .before .before .before .before .before .before .clear-bytes .ensures) (c .before .before .before .before .before .before .clear-bytes2 .ensures)
+fill-requires c κs = fillable _ _ _ (c .before .before .before .before .before .before .before .before .before .before .before .table-number .ensures .none (c .before .before .if1 .left)) (c .before .before .before .before .before .before .before .before .before .before .before .before .levelize .ensures) (c .before .before .before .before .before .before .before .before .before .clear-bytes .ensures) (c .before .before .before .before .before .clear-bytes2 .ensures)
 
 power-requires : tie.Need-power-requires
-power-requires c κs = omega (arith, sound-table _ _ _ (c .before .before .before .before .before .before .before .before .before .before .before .before .before .before .before .before .before .table-number .ensures .none (c .before .before .before .before .before .before .before .before .if1 .left)) .few-latches)
+power-requires c κs = omega (arith, sound-table _ _ _ (c .before .before .before .before .before .before .before .before .before .before .before .before .before .before .before .before .table-number .ensures .none (c .before .before .before .before .before .before .before .if1 .left)) .few-latches)
 
 power-requires-2 : tie.Need-power-requires-2
-power-requires-2 c κs = omega (arith, sound-table _ _ _ (c .before .before .before .before .before .before .before .before .before .before .before .before .before .before .before .before .before .before .table-number .ensures .none (c .before .before .before .before .before .before .before .before .before .if1 .left)) .few-inputs)
+power-requires-2 c κs = omega (arith, sound-table _ _ _ (c .before .before .before .before .before .before .before .before .before .before .before .before .before .before .before .before .before .table-number .ensures .none (c .before .before .before .before .before .before .before .before .if1 .left)) .few-inputs)
 
 returns-2 : tie.Need-returns-2
 returns-2 c =
     record {
-      keeps = (c .before .before .before .before .before .before .before .before .before .before .before .before .before .before .before .before .before .before .before .table-number .ensures .none (c .before .before .before .before .before .before .before .before .before .before .if1 .left), record { states = c .before .power .ensures .0; vectors = c .power2 .ensures .0; holds = holds-design _ _ _ _ _ (c .before .before .before .before .before .before .fill .ensures) });
-      size-next = c .before .before .before .before .before .before .fill .ensures .nexts .size ∙ c .before .before .before .before .before .before .before .before .before .before .before .before .before .before .before .before .before .clear-bytes .ensures .size;
-      size-out = c .before .before .before .before .before .before .fill .ensures .outs .size ∙ c .before .before .before .before .before .before .before .before .before .before .before .before .before .clear-bytes2 .ensures .size;
+      keeps = (c .before .before .before .before .before .before .before .before .before .before .before .before .before .before .before .before .before .before .table-number .ensures .none (c .before .before .before .before .before .before .before .before .before .if1 .left), record { states = c .before .power .ensures .0; vectors = c .power2 .ensures .0; holds = holds-design _ _ _ _ _ (c .before .before .before .before .before .before .fill .ensures) });
+      size-next = c .before .before .before .before .before .before .fill .ensures .nexts .size ∙ c .before .before .before .before .before .before .before .before .before .before .before .before .before .before .before .before .clear-bytes .ensures .size;
+      size-out = c .before .before .before .before .before .before .fill .ensures .outs .size ∙ c .before .before .before .before .before .before .before .before .before .before .before .before .clear-bytes2 .ensures .size;
     }
 
 pub tabulate-spec : {M : Type 1} → statement M

@@ -1,6 +1,6 @@
 -- Filling the tables of a design.
 --   nextEntry d k, outEntry d k     entry k of the tables
---   Fillable d l next out           what filling needs: an order l of the cells, and cleared slices with room
+--   Fillable d i l next out         what filling needs: an order l of the i kept cells, and cleared slices with room
 --   FilledTables d n m k next out   slices of n and m bytes hold the first k entries, and zero beyond
 use Prim.Native.Nat.{ℕ, _/_, _%_, _≤_}
 use mathlib.Core.List.{List}
@@ -18,8 +18,8 @@ nextEntry d k = nextState d (k / vectorsOf d) (k % vectorsOf d)
 abbrev pub outEntry : Design → ℕ → ℕ
 outEntry d k = outputs d (k / vectorsOf d) (k % vectorsOf d)
 
-pub record Fillable (d : Design) (l next out : List ℕ) : Type 0 where
-  pub ready : Evaluable d l
+pub record Fillable (d : Design) (i : ℕ) (l next out : List ℕ) : Type 0 where
+  pub ready : Evaluable d i l
   pub room-next : sizeOf d ≤ length next
   pub room-out : sizeOf d ≤ length out
   pub zero-next : Zero next

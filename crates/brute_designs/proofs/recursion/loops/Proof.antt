@@ -1,14 +1,14 @@
--- `loops`: one cell after another.
+-- `loops`: one net after another.
 use Prim.Native.Nat.{_-_}
 use borrow.Author.Needs.{needs}
 use Rattle.brute_designs.proofs.recursion.loops.Statement.{statement}
 use Rattle.brute_designs.proofs.recursion.loops.Tie as tie
 
 abbrev Inv-loop : tie.InvT-loop
-Inv-loop list count i₀ i = Unit {0}
+Inv-loop list count place₀ place = Unit {0}
 
 abbrev μ-loop : tie.MeasureT-loop
-μ-loop list count i₀ i = count - i
+μ-loop list count place₀ place = 802 - place
 
 pub loops-spec : {M : Type 1} → statement M
 loops-spec =
@@ -19,7 +19,7 @@ loops-spec =
     (λ c κs. search needs)
     (λ c. search needs)
     (λ c κs. search needs)
-    (λ c. search needs)
+    (λ c κs. search needs)
     (λ c κs. search needs)
     (λ c. search needs)
     (λ c. search needs)

@@ -12,10 +12,10 @@ use Rattle.simulator.proofs.tables.fill.Statement.{statement}
 use Rattle.simulator.proofs.tables.fill.Tie as tie
 
 abbrev Inv-loop : tie.InvT-loop
-Inv-loop d cells next₀ out₀ vectors end k₀ next out k = (k ≤ end) × FilledTables d (length next₀) (length out₀) k next out
+Inv-loop d plan next₀ out₀ vectors end k₀ next out k = (k ≤ end) × FilledTables d (length next₀) (length out₀) k next out
 
 abbrev μ-loop : tie.MeasureT-loop
-μ-loop d cells next₀ out₀ vectors end k₀ next out k = end - k
+μ-loop d plan next₀ out₀ vectors end k₀ next out k = end - k
 
 power-requires : tie.Need-power-requires Inv-loop μ-loop
 power-requires c κs = omega (arith, c .before .before .pre .ready .sound .few-inputs)
