@@ -129,11 +129,11 @@ def lowest(choices, before):
 
 
 class Pairs:
-    """Two machines side by side, by their tables, and how a step is picked."""
+    """Two machines side by side, by their tables, the vectors that are allowed, and how a step is picked."""
 
-    def __init__(self, old_next, old_out, new_next, new_out, pick=kept):
+    def __init__(self, old_next, old_out, new_next, new_out, vectors, pick=kept):
         self.next, self.out, self.pick = (old_next, new_next), (old_out, new_out), pick
-        self.vectors = range(len(old_next[0]))
+        self.vectors = vectors
         self.all = list(product(range(len(old_next)), range(len(new_next))))
         self.classes = self.refined()
         self.left = self.steps_to_alike()
@@ -152,7 +152,7 @@ class Pairs:
         out = self.out[0] + self.out[1]
         rows = [[0] * len(after)]
         while True:
-            looks = [(*out[state], *(rows[-1][then] for then in after[state])) for state in range(len(after))]
+            looks = [tuple((out[state][v], rows[-1][after[state][v]]) for v in self.vectors) for state in range(len(after))]
             numbers = {look: number for number, look in enumerate(dict.fromkeys(looks))}
             rows.append([numbers[look] for look in looks])
             if len(set(rows[-1])) == len(set(rows[-2])):
@@ -256,8 +256,20 @@ def verdict_lines(pairs, room):
     return lines
 
 
-def answer(data, room, pick):
-    """What `align` prints of these bytes with so many bytes of list."""
+def allowed(number, count):
+    """The vectors that a number allows, each a power of two in it; None allows all of them."""
+    if number is None:
+        return range(count)
+    vectors = []
+    while number > 0:
+        vectors.append(number.bit_length() - 1)
+        number -= 2 ** vectors[-1]
+    refuse(20, not vectors or vectors[0] >= count)
+    return vectors[::-1]
+
+
+def answer(data, room, pick, number=None):
+    """What `align` prints of these bytes with so many bytes of list, or `align_allowed` where a number is given."""
     whose = "OLD"
     try:
         old = Design(data, False)
@@ -265,7 +277,7 @@ def answer(data, room, pick):
         new = Design(data[old.bytes:], True)
         whose = "BOTH"
         refuse(10, (old.inputs, old.outputs) != (new.inputs, new.outputs))
-        pairs = Pairs(old.next, old.out, new.next, new.out, pick)
+        pairs = Pairs(old.next, old.out, new.next, new.out, allowed(number, 2 ** old.inputs), pick)
         lines = verdict_lines(pairs, room)
     except Refused as refused:
         return f"REFUSED {whose} {refused}\n"
@@ -296,8 +308,10 @@ def main():
     for line in (HERE / "stdin").read_text().split("\n")[1:]:
         heading, spelled = line.split(":")
         data, room = bytes.fromhex(spelled), int(heading[0]) if heading[0] in "012" else 32768
+        number = int.from_bytes(data[:8], "big") if heading[0] == "#" else None
+        data = data if number is None else data[8:]
         check_heading(heading, data)
-        said += f"\n{heading}\n" + shown(answer(data, room, pick))
+        said += f"\n{heading}\n" + shown(answer(data, room, pick, number))
     if pick is kept:
         (HERE / "stdout").write_text(said)
     else:

@@ -5,7 +5,8 @@
 
 It was written from the papers, not from the proved code, and goes another way where there is one: an image is a string of 0 and 1, the
 value of a net is found by recursion, a flip-flop that is held or cleared reads another net, an image that version 1 could have held is
-one that would be written otherwise, a set of pairs is a set, and what refuses a call is a list of numbers of which the lowest counts.
+one that would be written otherwise, a set of pairs is a set, the allowed vectors are a list, and what refuses a call is a list of numbers
+of which the first counts.
 """
 import re
 from pathlib import Path
@@ -14,7 +15,7 @@ HERE = Path(__file__).resolve().parent
 CELLS = 256
 CELLS_AT = 4 + 3 * 7 + 8
 NETS = {1: 1, 2: 3}  # of a flip-flop, in an image of each version
-TOO_LONG = {"image": 708, "memory": CELLS_AT + 3 * CELLS, "numbers": 13, "bytes": 40000}
+TOO_LONG = {"image": 708, "memory": CELLS_AT + 3 * CELLS, "numbers": 17, "bytes": 40000}
 
 
 class NoQuestion(Exception):
@@ -201,15 +202,15 @@ def reading(data):
 # Pairs of states of two machines.
 
 class Pairs:
-    """Two tables each, with the sizes: which pairs are alike and which can be aligned, and the lists that are picked."""
+    """Two tables each, with the sizes and the allowed vectors: which pairs are alike and which can be aligned, and the lists that are picked."""
 
-    def __init__(self, tables, old, new, vectors):
+    def __init__(self, tables, old, new, vectors, allowed):
         self.next0, self.out0, self.next1, self.out1 = tables
-        self.old, self.new, self.vectors = old, new, vectors
+        self.old, self.new, self.vectors, self.allowed = old, new, vectors, allowed
         self.all = [(s0, s1) for s0 in range(old) for s1 in range(new)]
         alike, self.round = {pair for pair in self.all if not self.telling(pair)}, 1
         while True:
-            fewer = {pair for pair in alike if all(self.after(pair, v) in alike for v in range(vectors))}
+            fewer = {pair for pair in alike if all(self.after(pair, v) in alike for v in allowed)}
             if fewer == alike:
                 break
             alike, self.round = fewer, self.round + 1
@@ -223,14 +224,14 @@ class Pairs:
     def telling(self, pair):
         """The vectors that show different outputs."""
         at0, at1 = pair[0] * self.vectors, pair[1] * self.vectors
-        return [v for v in range(self.vectors) if self.out0[at0 + v] != self.out1[at1 + v]]
+        return [v for v in self.allowed if self.out0[at0 + v] != self.out1[at1 + v]]
 
     def distances(self, found):
         steps = max(found.values(), default=0)
         while True:
             steps += 1
             more = [pair for pair in self.all if pair not in found
-                    and any(found.get(self.after(pair, v), steps) == steps - 1 for v in range(self.vectors))]
+                    and any(found.get(self.after(pair, v), steps) == steps - 1 for v in self.allowed)]
             if not more:
                 return found
             found.update((pair, steps) for pair in more)
@@ -239,7 +240,7 @@ class Pairs:
         """Of the shortest lists the one whose steps each keep the vector before, or else take the lowest."""
         steps = []
         while distance[pair] and (distance is self.to_align or distance[pair] > 1):
-            fit = [v for v in range(self.vectors) if distance.get(self.after(pair, v), -1) == distance[pair] - 1]
+            fit = [v for v in self.allowed if distance.get(self.after(pair, v), -1) == distance[pair] - 1]
             prior = prior if prior in fit else fit[0]
             steps.append(prior)
             pair = self.after(pair, prior)
@@ -280,26 +281,38 @@ def tables_faults(lengths, sizes, mapping):
     return [12] if any(length < need for length, need in zip(lengths, needed)) else []
 
 
-def on_tables(call, numbers, data):
+def allowed_vectors(parts, vectors):
+    """The vectors that a number in four parts allows, or all of them, and whether 20 refuses it."""
+    if not parts:
+        return list(range(vectors)), False
+    number = "".join(f"{part:016b}" for part in parts + [0] * (4 - len(parts)))
+    bits = [v for v, bit in enumerate(reversed(number)) if bit == "1"]
+    return [v for v in bits if v < vectors], not bits or bits[-1] >= vectors
+
+
+def on_tables(call, numbers, given, data):
     lengths, sizes, pair = numbers[1:8], numbers[8:11], tuple(numbers[11:13])
     if sum(lengths[:4]) != len(data):
         raise NoQuestion("the tables have other lengths")
     ends = [sum(lengths[:k]) for k in range(5)]
     tables = [data[ends[k]:ends[k + 1]] for k in range(4)]
-    said, left = answer_on_tables(call, lengths, sizes, pair, tables)
+    said, left = answer_on_tables(call, lengths, sizes, pair, tables, numbers[13:max(given, 13)])
     return said + short([0] * lengths[4]) + short([0] * lengths[5]) + short(filled(left, lengths[6]))
 
 
-def answer_on_tables(call, lengths, sizes, pair, tables):
+def answer_on_tables(call, lengths, sizes, pair, tables, parts):
     nothing = " alike 0 alignable 0" if call == "judge" else ""
     faults = tables_faults(lengths, sizes, call.startswith("map"))
     if not faults and any(s >= sizes[side] for side in (0, 1) for s in tables[2 * side][:sizes[side] * sizes[2]]):
         faults = [13]
     if not faults and call.endswith("_of") and (pair[0] >= sizes[0] or pair[1] >= sizes[1]):
         faults = [14]
+    allowed, wrong = allowed_vectors(parts, sizes[2])
+    if not faults and wrong:
+        faults = [20]
     if faults:
-        return f"refused {min(faults)}{nothing}", []
-    pairs = Pairs(tables, *sizes)
+        return f"refused {faults[0]}{nothing}", []
+    pairs = Pairs(tables, *sizes, allowed)
     if call == "map_alike":
         return f"marked {len(pairs.alike)} round {pairs.round}", [int(p in pairs.alike) for p in pairs.all]
     if call == "map_alignable":
@@ -318,7 +331,7 @@ def answer_on_tables(call, lengths, sizes, pair, tables):
     return said + counts, steps
 
 
-def on_designs(call, old, new, numbers):
+def on_designs(call, old, new, numbers, given):
     """tabulate, tabulate_both and compare."""
     designs = [old] if call == "tabulate" else [old, new]
     lengths = numbers[1:{"tabulate": 3, "tabulate_both": 5, "compare": 8}[call]]
@@ -335,7 +348,7 @@ def on_designs(call, old, new, numbers):
     if faults:
         said = f"refused {faults[0]}" + (" alike 0 alignable 0" if call == "compare" else "")
     elif call == "compare":
-        said, steps = answer_on_tables("judge", [len(table) for table in tables] + lengths[4:], states + [2 ** old.inputs], (0, 0), tables)
+        said, steps = answer_on_tables("judge", [len(table) for table in tables] + lengths[4:], states + [2 ** old.inputs], (0, 0), tables, numbers[8:max(given, 8)][:4])
     if said.startswith("refused"):
         tables = [[]] * 4
     slices = [filled(table, length) for table, length in zip(tables, lengths)]
@@ -366,7 +379,7 @@ def on_one(call, design, numbers):
 DESIGNS = {"compare": 2, "tabulate_both": 2, "tabulate": 1, "write": 1, "clock": 1, "fault_of": 1, "levelize": 1}
 TAKE_NO_NUMBERS = ["fault_of", "levelize", "length_of", "read"]
 OTHERS = ["length_of", "read", "map_alike", "map_alignable", "trace_of", "list_of", "judge", "earlier_number"]
-ORDER = [*range(1, 10), 19, *range(10, 17)]
+ORDER = [*range(1, 10), 19, *range(10, 15), 20, 15, 16]
 
 
 def design_of(words):
@@ -406,8 +419,8 @@ def answer(line):
     if call in ("write", "clock", "fault_of", "levelize"):
         return on_one(call, designs[0], numbers)
     if call in DESIGNS:
-        return on_designs(call, designs[0], designs[-1], numbers)
-    return on_tables(call, numbers, data)
+        return on_designs(call, designs[0], designs[-1], numbers, given)
+    return on_tables(call, numbers, given, data)
 
 
 def answered(line):

@@ -17,9 +17,10 @@ use Rattle.format.proofs.Refusals.{within-limits}
 use Rattle.image.proofs.Long.{SameFront, same-bytes-in, header-there, free-there, never-free, lowest-there}
 use Rattle.machine.specs.Meaning.Lent.{Lent}
 use Rattle.compare.specs.Meaning.Comparing.{TablesLent}
+use Rattle.panel.specs.declared.Panel.{Panel}
 use Rattle.align_report.specs.Meaning.Report.{oldBytes, newBytes, OldRefused, OldAccepted, Answers, Prints, mostRead}
 
-same-bit : (b c : List ℕ) (i : ℕ) → getD b (i / 8) 0 ≡ getD c (i / 8) 0 → bitAt b i ≡ bitAt c i
+pub same-bit : (b c : List ℕ) (i : ℕ) → getD b (i / 8) 0 ≡ getD c (i / 8) 0 → bitAt b i ≡ bitAt c i
 unfolding bitAt
 same-bit b c i e = ap (λ (x : ℕ). bitOf 8 x (i % 8)) e
 
@@ -62,15 +63,15 @@ module _ (b : List ℕ) (long : mostRead ≤ length b) where
   old-refused {k} (OldRefused.header l) = OldRefused.header (header-there whole l)
   old-refused {k} (OldRefused.image f l) = OldRefused.image (free-there whole f) (subst (λ (c : List ℕ). First (ImageFault c) k) (same-old f) l)
 
-  pub cut-input : (n : TablesLent) (s : Lent) (l t : List ℕ) → Answers cut n s l t → Answers b n s l t
-  cut-input n s l t (Answers.old-refused k r z e) = Answers.old-refused k (old-refused r) z e
-  cut-input n s l t (Answers.new-refused k a f z e) = Answers.new-refused k (old-accepted a) (lowest-there (behind (a .header)) f) z e
-  cut-input n s l t (Answers.designs a f d) = absurd (never-free (behind (a .header)) f)
+  pub cut-input : (p : Panel) (n : TablesLent) (s : Lent) (l t : List ℕ) → Answers p cut n s l t → Answers p b n s l t
+  cut-input p n s l t (Answers.old-refused k r z e) = Answers.old-refused k (old-refused r) z e
+  cut-input p n s l t (Answers.new-refused k a f z e) = Answers.new-refused k (old-accepted a) (lowest-there (behind (a .header)) f) z e
+  cut-input p n s l t (Answers.designs a f d) = absurd (never-free (behind (a .header)) f)
 
 -- so the room that is read into is long enough
-pub whole-input : (b text′ : List ℕ) (r : ℕ) → Prints (take mostRead b) text′ r → Prints b text′ r
-whole-input b text′ r p = go (decLt (length b) mostRead)
+pub whole-input : (o : Panel) (b text′ : List ℕ) (r : ℕ) → Prints o (take mostRead b) text′ r → Prints o b text′ r
+whole-input o b text′ r p = go (decLt (length b) mostRead)
   where
-    go : Dec (length b < mostRead) → Prints b text′ r
-    go (yes h) = subst (λ (c : List ℕ). Prints c text′ r) (take-all mostRead b (omega arith)) p
-    go (no h) = let q = p .reports in record { list = p .list; reports = record { answers = cut-input b (omega arith) _ _ (p .list) (take r text′) (q .answers); counts = q .counts; kept = q .kept } }
+    go : Dec (length b < mostRead) → Prints o b text′ r
+    go (yes h) = subst (λ (c : List ℕ). Prints o c text′ r) (take-all mostRead b (omega arith)) p
+    go (no h) = let q = p .reports in record { list = p .list; reports = record { answers = cut-input b (omega arith) o _ _ (p .list) (take r text′) (q .answers); counts = q .counts; kept = q .kept } }

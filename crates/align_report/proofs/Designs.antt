@@ -34,47 +34,47 @@ use Rattle.align_report.specs.Meaning.Report.{FactsOf, AnswersDesigns}
 use Rattle.align_report.specs.Working.Tabled.{numberOf, ReportsDesigns}
 use Rattle.align_report.proofs.Comparing.{same-inputs, found-same, found-apart}
 
-module _ {a b : Design} {n : TablesLent} {s : Lent} {t : TablesLeft} {e : Left} {text′ : List ℕ} {r : ℕ} where
+module _ {a b : Design} {allowed : ℕ} {n : TablesLent} {s : Lent} {t : TablesLeft} {e : Left} {text′ : List ℕ} {r : ℕ} where
   -- neither Same nor Apart
-  pub prints-refused : {j : Judged} {k : ℕ} → Compares a b n s t e j → OneOf (1 ∷ 2 ∷ []) (tagOf verdict.the-type (j .verdict)) → OneOf (0 ∷ 2 ∷ []) (tagOf verdict.the-type (j .verdict)) → k ≡ numberOf (verdictReply (j .verdict))
-      → Printed (refusalText Both k) text′ r → ReportsDesigns a b n s (e .written) text′ r
+  pub prints-refused : {j : Judged} {k : ℕ} → Compares a b allowed n s t e j → OneOf (1 ∷ 2 ∷ []) (tagOf verdict.the-type (j .verdict)) → OneOf (0 ∷ 2 ∷ []) (tagOf verdict.the-type (j .verdict)) → k ≡ numberOf (verdictReply (j .verdict))
+      → Printed (refusalText Both k) text′ r → ReportsDesigns a b allowed n s (e .written) text′ r
   prints-refused {j} {k} c g h i q = go (j .verdict) (c .keeps) g h i
     where
-      go : (v : Verdict) → Keeps (CompareFault a b n s) (Compared a b t e) (ClearedAll t e) (verdictReply v) → OneOf (1 ∷ 2 ∷ []) (tagOf verdict.the-type v) → OneOf (0 ∷ 2 ∷ []) (tagOf verdict.the-type v) → k ≡ numberOf (verdictReply v)
-          → ReportsDesigns a b n s (e .written) text′ r
+      go : (v : Verdict) → Keeps (CompareFault a b allowed n s) (Compared a b allowed t e) (ClearedAll t e) (verdictReply v) → OneOf (1 ∷ 2 ∷ []) (tagOf verdict.the-type v) → OneOf (0 ∷ 2 ∷ []) (tagOf verdict.the-type v) → k ≡ numberOf (verdictReply v)
+          → ReportsDesigns a b allowed n s (e .written) text′ r
       go (Verdict.Same m) w (inl g) h i = absurd (omega arith)
       go (Verdict.Same m) w (inr g) h i = absurd (omega arith)
       go (Verdict.Apart p m) w g (inl h) i = absurd (omega arith)
       go (Verdict.Apart p m) w g (inr h) i = absurd (omega arith)
       go (Verdict.Refused k) w g h i = record { answers = AnswersDesigns.refused k (w .0) (w .1 .list) (rw (← i) (q .is)); counts = q .counts; kept = c .tidy .written }
 
-  pub prints-same : {j : Judged} {m : ℕ} {f : Facts} → Compares a b n s t e j → j .verdict ≡ Verdict.Same m → FactsOf a b f
-      → Printed (sameText f (take m (e .written))) text′ r → ReportsDesigns a b n s (e .written) text′ r
+  pub prints-same : {j : Judged} {m : ℕ} {f : Facts} → Compares a b allowed n s t e j → j .verdict ≡ Verdict.Same m → FactsOf a b allowed f
+      → Printed (sameText f (take m (e .written))) text′ r → ReportsDesigns a b allowed n s (e .written) text′ r
   prints-same c is f q =
       let w = found-same c is in
       record { answers = AnswersDesigns.found-same (w .0) _ f _ (w .1 .decided) (q .is); counts = q .counts; kept = c .tidy .written }
 
 -- tables print what the designs show
-module _ {a b : Design} {n : TablesLent} {s : Lent} {next0 out0 next1 out1 : List ℕ} {e : Left} {j : Judged} {p : Pair} {m : ℕ}
-    (c : Compares a b n s (tablesLeftOf next0 out0 next1 out1) e j) (is : j .verdict ≡ Verdict.Apart p m) where
+module _ {a b : Design} {allowed : ℕ} {n : TablesLent} {s : Lent} {next0 out0 next1 out1 : List ℕ} {e : Left} {j : Judged} {p : Pair} {m : ℕ}
+    (c : Compares a b allowed n s (tablesLeftOf next0 out0 next1 out1) e j) (is : j .verdict ≡ Verdict.Apart p m) where
   abbrev t : Tables
-  t = bothTables (sizesOf a b) next0 out0 next1 out1
+  t = bothTables (sizesOf a b allowed) next0 out0 next1 out1
 
-  w : Free (CompareFault a b n s) × Compared a b (tablesLeftOf next0 out0 next1 out1) e (D.apart p m)
+  w : Free (CompareFault a b allowed n s) × Compared a b allowed (tablesLeftOf next0 out0 next1 out1) e (D.apart p m)
   w = found-apart c is
 
-  agree : SameSteps (sizesOf a b) (oldMachine t) (newMachine t) (machineOf a) (machineOf b)
-  agree = tables-agree a b next0 out0 next1 out1 (same-inputs (w .0)) (w .1 .old) (w .1 .new)
+  agree : SameSteps (sizesOf a b allowed) (oldMachine t) (newMachine t) (machineOf a) (machineOf b)
+  agree = tables-agree a b allowed next0 out0 next1 out1 (same-inputs (w .0)) (w .1 .old) (w .1 .new)
 
-  apart-there : (f : Facts) (l : List ℕ) → In (sizesOf a b) p → Each (Ok (sizesOf a b)) l → apartIn t f p l ≡ apartText (machineOf a) (machineOf b) f p l
+  apart-there : (f : Facts) (l : List ℕ) → In (sizesOf a b allowed) p → Each (Ok (sizesOf a b allowed)) l → apartIn t f p l ≡ apartText (machineOf a) (machineOf b) f p l
   apart-there f l =
-      apart-same (oldMachine t) (newMachine t) (machineOf a) (machineOf b) (In (sizesOf a b)) (Ok (sizesOf a b))
+      apart-same (oldMachine t) (newMachine t) (machineOf a) (machineOf b) (In (sizesOf a b allowed)) (Ok (sizesOf a b allowed))
       (λ q v i o. ap₂ (λ (x y : ℕ). shownLine v x y) (agree .old .out (q .old) v (i .in-old) o) (agree .new .out (q .new) v (i .in-new) o))
       (λ q v i o. same-pair (agree .old .next (q .old) v (i .in-old) o) (agree .new .next (q .new) v (i .in-new) o))
       (same-closed (same-back agree)) f p l
 
-  pub prints-apart : {z : Sizes} {f : Facts} {text′ : List ℕ} {r : ℕ} → z ≡ sizesOf a b → FactsOf a b f
-      → Printed (apartIn (bothTables z next0 out0 next1 out1) f p (take m (e .written))) text′ r → ReportsDesigns a b n s (e .written) text′ r
+  pub prints-apart : {z : Sizes} {f : Facts} {text′ : List ℕ} {r : ℕ} → z ≡ sizesOf a b allowed → FactsOf a b allowed f
+      → Printed (apartIn (bothTables z next0 out0 next1 out1) f p (take m (e .written))) text′ r → ReportsDesigns a b allowed n s (e .written) text′ r
   prints-apart {z} {f} {text′} {r} same facts q =
       let k = w .1 .decided .sought in
       let x = subst (λ (y : Sizes). take r text′ ≡ apartIn (bothTables y next0 out0 next1 out1) f p (take m (e .written))) same (q .is) in

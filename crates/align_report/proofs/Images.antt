@@ -18,11 +18,16 @@ use Rattle.compare.specs.Meaning.Comparing.{TablesLent}
 use Rattle.report.specs.declared.Side.the-variants.{Old, New}
 use Rattle.pieces.specs.Meaning.Pieces.{Printed}
 use Rattle.report.specs.Meaning.Text.{refusalText}
+use Rattle.netlist.specs.Meaning.Nets.{vectorsOf}
+use Rattle.netlist.proofs.Numbers.{sound-of}
+use Rattle.image.proofs.Accepted.{image-accepted}
+use Rattle.panel.specs.declared.Panel.{Panel}
+use Rattle.panel.specs.Meaning.Panel.{allowedBy}
 use Rattle.align_report.specs.Meaning.Report.{OldRefused, OldAccepted, Answers, Reports}
 use Rattle.align_report.specs.Working.Tabled.{numberOf, ReportsDesigns}
 
 -- what stands behind the old image, as it is lent
-rest : (m : ℕ) (b : List ℕ) → take (length b - m) (drop m b) ≡ drop m b
+pub rest : (m : ℕ) (b : List ℕ) → take (length b - m) (drop m b) ≡ drop m b
 rest m b = take-all (length b - m) (drop m b) (omega (arith, length-drop m b))
 
 -- the image at the front of the input ends within it
@@ -37,16 +42,20 @@ old-read {b} {m} {f} w d e =
     let x = rw e at (d .keeps) in
     record { header = w .keeps .0; image = subst (λ (j : ℕ). Free (ImageFault (take j b))) (w .keeps .1) (x .0) }
 
-module _ {b : List ℕ} {n : TablesLent} {s : Lent} {list′ text′ : List ℕ} {r : ℕ} where
+-- an accepted image has few inputs
+pub read-few : {b : List ℕ} {f : Reading} → ReadsImage b f → f .answer ≡ Answer.Accepted → f .design .inputs ≤ 6
+read-few {b} {f} d e = let x = rw e at (d .keeps) in rw (x .1) (sound-of (image-accepted b (x .0)) .few-inputs)
+
+module _ {o : Panel} {b : List ℕ} {n : TablesLent} {s : Lent} {list′ text′ : List ℕ} {r : ℕ} where
   pub old-unmeasured : {m : Length} {k q : ℕ} → Measures b m → m ≡ Length.Refused k → q ≡ numberOf (lengthReply m)
-      → Zero list′ → length list′ ≡ s .written → Printed (refusalText Old q) text′ r → Reports b n s list′ text′ r
+      → Zero list′ → length list′ ≡ s .written → Printed (refusalText Old q) text′ r → Reports o b n s list′ text′ r
   old-unmeasured {k = k} w e i z l p =
       let x = rw e at w in
       let j : _ ≡ k = rw e at i in
       record { answers = Answers.old-refused k (OldRefused.header (x .keeps .0)) z (rw (← j) (p .is)); counts = p .counts; kept = l }
 
   pub old-unread : {m k q : ℕ} {f : Reading} → Measures b (Length.Bytes m) → ReadsImage (take m b) f → f .answer ≡ Answer.Refused k → q ≡ numberOf (readReply (f .answer) emptyDesign)
-      → Zero list′ → length list′ ≡ s .written → Printed (refusalText Old q) text′ r → Reports b n s list′ text′ r
+      → Zero list′ → length list′ ≡ s .written → Printed (refusalText Old q) text′ r → Reports o b n s list′ text′ r
   old-unread {m} {k} {q} {f} w d e i z l p =
       let x = rw e at (d .keeps) in
       let y = subst (λ (j : ℕ). First (ImageFault (take j b)) k) (w .keeps .1) (x .0) in
@@ -55,7 +64,7 @@ module _ {b : List ℕ} {n : TablesLent} {s : Lent} {list′ text′ : List ℕ}
 
   pub new-unread : {m k q : ℕ} {f g : Reading} → Measures b (Length.Bytes m) → ReadsImage (take m b) f → f .answer ≡ Answer.Accepted
       → ReadsImage (take (length b - m) (drop m b)) g → g .answer ≡ Answer.Refused k → q ≡ numberOf (readReply (g .answer) emptyDesign)
-      → Zero list′ → length list′ ≡ s .written → Printed (refusalText New q) text′ r → Reports b n s list′ text′ r
+      → Zero list′ → length list′ ≡ s .written → Printed (refusalText New q) text′ r → Reports o b n s list′ text′ r
   new-unread {m} {k} {q} {f} {g} w d a u e i z l p =
       let x = rw e at (read-rest b m g u .keeps) in
       let y = subst (λ (j : ℕ). First (ImageFault (drop j b)) k) (w .keeps .1) (x .0) in
@@ -63,7 +72,7 @@ module _ {b : List ℕ} {n : TablesLent} {s : Lent} {list′ text′ : List ℕ}
       record { answers = Answers.new-refused k (old-read w d a) y z (rw (← j) (p .is)); counts = p .counts; kept = l }
 
   pub both-read : {m : ℕ} {f g : Reading} → Measures b (Length.Bytes m) → ReadsImage (take m b) f → f .answer ≡ Answer.Accepted
-      → ReadsImage (take (length b - m) (drop m b)) g → g .answer ≡ Answer.Accepted → ReportsDesigns (f .design) (g .design) n s list′ text′ r → Reports b n s list′ text′ r
+      → ReadsImage (take (length b - m) (drop m b)) g → g .answer ≡ Answer.Accepted → ReportsDesigns (f .design) (g .design) (allowedBy o (vectorsOf (f .design))) n s list′ text′ r → Reports o b n s list′ text′ r
   both-read {m} {f} {g} w d a u c p =
       let x = rw a at (d .keeps) in
       let y = rw c at (read-rest b m g u .keeps) in

@@ -1,14 +1,15 @@
-// What the program `align` does with its input: both images are read, the designs compared, and the answer written as text. Each answer
-// is taken apart before anything is written, so that nothing else stands beside a refusal. Tables and scratch are held here, for designs
-// at every limit.
+// What the program `align` does with its input, and what is done under any panel: both images are read, the designs compared, and the
+// answer written as text. Each answer is taken apart before anything is written, so that nothing else stands beside a refusal. Tables
+// and scratch are held here, for designs at every limit.
 mod numbers_of;
 
 ghost use mathlib.Core.Path.{_≡_};
-ghost use Prim.Native.Nat.{_+_, _*_, _^_, _≤_};
+ghost use Prim.Native.Nat.{_+_, _*_, _≤_};
 ghost use lib.ListN.{length};
 ghost use Rattle.memory.specs.Meaning.Slices.{Zero};
 ghost use Rattle.netlist.specs.Meaning.Faults.{Accepted};
 ghost use Rattle.machine.specs.Meaning.Lent.{lentOf};
+ghost use Rattle.machine.specs.Meaning.Tables.{Ok};
 ghost use Rattle.verdict.specs.Meaning.Decision.{CountsPairs};
 ghost use Rattle.compare.specs.Meaning.Designs.{machineOf, sizesOf};
 ghost use Rattle.compare.specs.Meaning.Comparing.{tablesLentOf};
@@ -21,6 +22,7 @@ use image::Length;
 use limits::Image;
 use machine::Sizes;
 use netlist::Design;
+use panel::Panel;
 use report::Facts;
 use report::Side;
 use streams::Input;
@@ -45,14 +47,14 @@ pub fn answer(room: &[u8], input: Input, text: &mut [u8]) -> Output
         return streams::put_unread(b"align: standard input cannot be read\n", text);
     };
     let mut list = [0u8; STEPS];
-    let length = write_report(&room[..n], &mut list, text);
+    let length = write_report(&room[..n], Panel::Every, &mut list, text);
     Output { stream: 1, length }
 }
 
-// Writes what is printed of an input, with a list slice of any length, and hands back how many bytes it has.
-pub fn write_report(input: &[u8], list: &mut [u8], text: &mut [u8]) -> usize
+// Writes what is printed of two images, with a list slice of any length, and hands back how many bytes it has.
+pub fn write_report(input: &[u8], panel: Panel, list: &mut [u8], text: &mut [u8]) -> usize
     requires { ⌜ 400 + 12 * length (now list) ≤ length (now text) ⌝ }
-    ensures { λ r. ⌜ Reports (now (input .entry)) ownTables (ownSlices (length (now (list .entry)))) (now (list .exit)) (now (text .exit)) r ⌝ }
+    ensures { λ r. ⌜ Reports panel (now (input .entry)) ownTables (ownSlices (length (now (list .entry)))) (now (list .exit)) (now (text .exit)) r ⌝ }
 {
     let mut old_next = [0u8; ENTRIES];
     let mut old_out = [0u8; ENTRIES];
@@ -63,6 +65,7 @@ pub fn write_report(input: &[u8], list: &mut [u8], text: &mut [u8]) -> usize
     memory::clear_bytes(list);
     write_images(
         input,
+        panel,
         &mut old_next,
         &mut old_out,
         &mut new_next,
@@ -78,6 +81,7 @@ pub fn write_report(input: &[u8], list: &mut [u8], text: &mut [u8]) -> usize
 // header says, and the rest is the new one.
 fn write_images(
     input: &[u8],
+    panel: Panel,
     old_next: &mut [u8],
     old_out: &mut [u8],
     new_next: &mut [u8],
@@ -89,7 +93,7 @@ fn write_images(
 ) -> usize
     requires { ⌜ 400 + 12 * length (now list) ≤ length (now text) ⌝ }
     requires { ⌜ Zero (now list) ⌝ }
-    ensures { λ r. ⌜ Reports (now (input .entry)) (tablesLentOf (length (now («old_next» .entry))) (length (now («old_out» .entry))) (length (now («new_next» .entry))) (length (now («new_out» .entry)))) (lentOf (length (now (depth .entry))) (length (now (reach .entry))) (length (now (list .entry)))) (now (list .exit)) (now (text .exit)) r ⌝ }
+    ensures { λ r. ⌜ Reports panel (now (input .entry)) (tablesLentOf (length (now («old_next» .entry))) (length (now («old_out» .entry))) (length (now («new_next» .entry))) (length (now («new_out» .entry)))) (lentOf (length (now (depth .entry))) (length (now (reach .entry))) (length (now (list .entry)))) (now (list .exit)) (now (text .exit)) r ⌝ }
 {
     let measured = image::length_of(input);
     let Length::Bytes(n) = measured else {
@@ -107,9 +111,11 @@ fn write_images(
     };
     let old = first.design;
     let new = second.design;
+    let allowed = panel::allowed_by(panel, old.inputs);
     write_comparison(
         old,
         new,
+        allowed,
         old_next,
         old_out,
         new_next,
@@ -121,10 +127,11 @@ fn write_images(
     )
 }
 
-// The text on two designs.
+// The text on two designs, of whose vectors the number allows those that can occur.
 fn write_comparison(
     old: Design,
     new: Design,
+    allowed: u64,
     old_next: &mut [u8],
     old_out: &mut [u8],
     new_next: &mut [u8],
@@ -135,11 +142,12 @@ fn write_comparison(
     text: &mut [u8],
 ) -> usize
     requires { ⌜ 400 + 12 * length (now list) ≤ length (now text) ⌝ }
-    ensures { λ r. ⌜ ReportsDesigns old new (tablesLentOf (length (now («old_next» .entry))) (length (now («old_out» .entry))) (length (now («new_next» .entry))) (length (now («new_out» .entry)))) (lentOf (length (now (depth .entry))) (length (now (reach .entry))) (length (now (list .entry)))) (now (list .exit)) (now (text .exit)) r ⌝ }
+    ensures { λ r. ⌜ ReportsDesigns old new allowed (tablesLentOf (length (now («old_next» .entry))) (length (now («old_out» .entry))) (length (now («new_next» .entry))) (length (now («new_out» .entry)))) (lentOf (length (now (depth .entry))) (length (now (reach .entry))) (length (now (list .entry)))) (now (list .exit)) (now (text .exit)) r ⌝ }
 {
     let judged = compare::compare(
         old,
         new,
+        allowed,
         old_next,
         old_out,
         new_next,
@@ -153,8 +161,8 @@ fn write_comparison(
         let Verdict::Apart(pair, steps) = verdict else {
             return report::put_refusal(Side::Both, numbers_of::verdict(verdict), text);
         };
-        let sizes = sizes_of(old, new);
-        let facts = facts_of(old, new, judged);
+        let sizes = sizes_of(old, new, allowed);
+        let facts = facts_of(old, new, allowed, judged);
         return report::put_apart(
             old_next,
             old_out,
@@ -168,17 +176,17 @@ fn write_comparison(
             text,
         );
     };
-    let facts = facts_of(old, new, judged);
+    let facts = facts_of(old, new, allowed, judged);
     report::put_same(facts, list, steps, text)
 }
 
 // What stands in front of the verdict on two designs.
-fn facts_of(old: Design, new: Design, judged: Judged) -> Facts
+fn facts_of(old: Design, new: Design, allowed: u64, judged: Judged) -> Facts
     requires { ⌜ Accepted old × Accepted new ⌝ }
-    requires { ⌜ CountsPairs (machineOf old) (machineOf new) (sizesOf old new) (judged .alike) (judged .alignable) ⌝ }
-    ensures { λ r. ⌜ FactsOf old new r ⌝ }
+    requires { ⌜ CountsPairs (machineOf old) (machineOf new) (Ok (sizesOf old new allowed)) (sizesOf old new allowed) (judged .alike) (judged .alignable) ⌝ }
+    ensures { λ r. ⌜ FactsOf old new allowed r ⌝ }
 {
-    let sizes = sizes_of(old, new);
+    let sizes = sizes_of(old, new, allowed);
     Facts {
         inputs: old.inputs as usize,
         outputs: old.outputs as usize,
@@ -190,22 +198,15 @@ fn facts_of(old: Design, new: Design, judged: Judged) -> Facts
     }
 }
 
-// How many states each design has, and how many vectors.
-fn sizes_of(old: Design, new: Design) -> Sizes
+// How many states each design has, how many vectors, and which of them can occur.
+fn sizes_of(old: Design, new: Design, allowed: u64) -> Sizes
     requires { ⌜ Accepted old × Accepted new ⌝ }
-    ensures { λ r. ⌜ r ≡ sizesOf old new ⌝ }
+    ensures { λ r. ⌜ r ≡ sizesOf old new allowed ⌝ }
 {
     Sizes {
-        old: power(old.latches),
-        new: power(new.latches),
-        vectors: power(old.inputs),
+        old: panel::power(old.latches),
+        new: panel::power(new.latches),
+        vectors: panel::power(old.inputs),
+        allowed,
     }
-}
-
-// How many numbers n bits have.
-fn power(n: u8) -> usize
-    requires { ⌜ n ≤ 7 ⌝ }
-    ensures { λ r. ⌜ r ≡ 2 ^ n ⌝ }
-{
-    1usize << n
 }

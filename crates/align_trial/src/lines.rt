@@ -1,6 +1,10 @@
 // A line: where a byte stands in it, and what it says.
 ghost use Prim.Native.Nat.{_≤_};
 ghost use lib.ListN.{length};
+use panel::Panel;
+
+// The bytes of the number that names the allowed vectors.
+const NUMBER: usize = 8;
 
 // Where the first such byte stands at or behind a place, or else the end.
 pub(crate) fn find(line: &[u8], from: usize, byte: u8) -> usize
@@ -33,6 +37,43 @@ pub(crate) fn list_bytes(line: &[u8], most: usize) -> usize
         b'2' => 2,
         _ => most,
     }
+}
+
+// How many of n bytes stand in front of the images.
+pub(crate) fn front(line: &[u8], n: usize) -> usize
+    ensures { λ r. ⌜ r ≤ n ⌝ }
+{
+    if !names(line) {
+        return 0;
+    }
+    if n < NUMBER {
+        return n;
+    }
+    NUMBER
+}
+
+// The panel of a line: the number at the front of its bytes names the allowed vectors, or all are allowed.
+pub(crate) fn panel(line: &[u8], bytes: &[u8]) -> Panel {
+    if !names(line) {
+        return Panel::Every;
+    }
+    let mut number = 0;
+    let mut i = 0;
+    while i < NUMBER && i < bytes.len() {
+        number = behind(number, bytes[i]);
+        i += 1;
+    }
+    Panel::Named(number)
+}
+
+// Whether the heading of a line begins with a hash.
+fn names(line: &[u8]) -> bool {
+    line.len() > 1 && line[1] == b'#'
+}
+
+// The number with one byte more behind its bits.
+fn behind(number: u64, byte: u8) -> u64 {
+    number << 8 | byte as u64
 }
 
 // Writes the bytes that stand behind a colon or space each, as far as there is room, and hands back how many.

@@ -1,6 +1,7 @@
 // Runs what `align` does on many inputs with one list slice, and prints a heading and the text for each. The slice holds other things
 // at first, and then what the inputs before have left. Standard input has for each a line feed, a heading, a colon, and the bytes in
-// hexadecimal with a space between them. A heading that begins with 0, 1 or 2 is given so many bytes of list, any other 32,768.
+// hexadecimal with a space between them. A heading that begins with 0, 1 or 2 is given so many bytes of list, any other 32,768. Where it
+// begins with a hash, the first eight bytes are the number that names the allowed vectors, as for `align_allowed`; else all are allowed.
 // Of a text of more than 4,096 bytes the first lines are printed, and a line with how many bytes it has and a sum of them all.
 mod lines;
 
@@ -14,7 +15,7 @@ const TEXT: usize = 400 + 12 * STEPS;
 
 const INPUT: usize = 3000;
 
-const LINES: usize = 50000;
+const LINES: usize = 65536;
 
 // The most bytes of a text that is printed whole, and how many a longer one shows at least.
 const WHOLE: usize = 4096;
@@ -51,7 +52,9 @@ fn show(line: &[u8], input: &mut [u8], list: &mut [u8], text: &mut [u8])
     io::write_all(1, b"\n");
     let n = lines::decode(&line[colon..], input);
     let bytes = lines::list_bytes(line, list.len());
-    let length = align_report::write_report(&input[..n], &mut list[..bytes], text);
+    let front = lines::front(line, n);
+    let panel = lines::panel(line, &input[..n]);
+    let length = align_report::write_report(&input[front..n], panel, &mut list[..bytes], text);
     print_text(&text[..length]);
 }
 

@@ -1,5 +1,5 @@
-// Pairs of machines of 3 or 4 states each and 1 to 3 vectors, drawn by a fixed generator. At least half of the outputs are
-// 0, the others mostly 1 and 128. Two machines drawn apart rarely have alike pairs, so each size is drawn in three ways: both
+// Pairs of machines of 3 or 4 states each and 1 to 3 vectors, some or all of them allowed, drawn by a fixed generator. At least half of the
+// outputs are 0, the others mostly 1 and 128. Two machines drawn apart rarely have alike pairs, so each size is drawn in three ways: both
 // apart, and the new one made from the old one by renaming its states, as it is or with one entry changed. Where the new machine has more
 // states than the old one, some old states get two names; where it has fewer, the next states that have no name are drawn.
 ghost use Prim.Native.Nat.{_<_};
@@ -35,9 +35,23 @@ pub(crate) fn compare_all(tally: &mut [usize; PLACES]) {
             old: i / 3000 % 2 + 3,
             new: i / 1500 % 2 + 3,
             vectors: i / 6000 % 3 + 1,
+            allowed: draw_allowed(i / 6000 % 3 + 1, &mut seed),
         };
         compare(draw(sizes, i / 500 % 3, &mut seed), tally);
     }
+}
+
+// Draws which vectors are allowed: all of them, or in about half of the draws any, but not none.
+fn draw_allowed(vectors: usize, seed: &mut u64) -> u64 {
+    let every = match vectors {
+        1 => 1,
+        2 => 3,
+        _ => 7,
+    };
+    if roll(seed, 2) == 0 {
+        return every as u64;
+    }
+    (roll(seed, every) % 7 + 1) as u64
 }
 
 // The next number below `sides`, from the higher digits of a multiplicative generator.

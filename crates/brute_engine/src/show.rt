@@ -38,8 +38,12 @@ pub(crate) fn question(m: Machines, question: Question, room: usize) {
     numbers[3] = m.sizes.old;
     numbers[4] = m.sizes.new;
     numbers[5] = m.sizes.vectors;
+    numbers[6] = (m.sizes.allowed % 8) as usize;
     call(question.call, &numbers);
-    print(b", BYTES LENT c\n  STATES d e, VECTORS f\n", &numbers);
+    print(
+        b", BYTES LENT c\n  STATES d e, VECTORS f, ALLOWED g\n",
+        &numbers,
+    );
     tables(m);
 }
 

@@ -1,5 +1,6 @@
-// Every pair of machines that have 1 or 2 states each, the same 1 or 2 vectors and one output bit. A pair of machines is a number of 19 bits:
-// 4 for each table, an entry a bit, and 3 for the sizes; of these numbers some have a bit that no machine of the sizes has.
+// Every pair of machines that have 1 or 2 states each, the same 1 or 2 vectors and one output bit, under every number that allows some of
+// these vectors and no other. A pair of machines is a number of 19 bits: 4 for each table, an entry a bit, and 3 for the sizes; of these
+// numbers some have a bit that no machine of the sizes has.
 use crate::compare::compare;
 use crate::tables::ENTRIES;
 use crate::tables::Machines;
@@ -16,8 +17,23 @@ pub(crate) fn compare_all(tally: &mut [usize; PLACES]) {
         let vectors = n / 262144 % 2 + 1;
         if is_machine(old, vectors, n % 256) {
             if is_machine(new, vectors, n / 256 % 256) {
-                compare(make(Sizes { old, new, vectors }, n), tally);
+                compare_allowed(old, new, vectors, n, tally);
             }
+        }
+    }
+}
+
+// Compares under each of the numbers: 1 of one vector; 1, 2 and 3 of two.
+fn compare_allowed(old: usize, new: usize, vectors: usize, n: usize, tally: &mut [usize; PLACES]) {
+    for allowed in 1u64..4 {
+        if vectors == 2 || allowed == 1 {
+            let sizes = Sizes {
+                old,
+                new,
+                vectors,
+                allowed,
+            };
+            compare(make(sizes, n), tally);
         }
     }
 }

@@ -52,29 +52,29 @@ pub vectors-few : {d : Design} → Accepted d → vectorsOf d ≤ 64
 vectors-few {d} a = pow-mono {i = d .inputs} {j = 6} (sound-of a .few-inputs)
 
 -- two tables
-module _ (a b : Design) (next0 out0 next1 out1 : List ℕ) (same : a .inputs ≡ b .inputs) (h0 : HoldsDesign a next0 out0) (h1 : HoldsDesign b next1 out1) where
+module _ (a b : Design) (allowed : ℕ) (next0 out0 next1 out1 : List ℕ) (same : a .inputs ≡ b .inputs) (h0 : HoldsDesign a next0 out0) (h1 : HoldsDesign b next1 out1) where
   abbrev Both : Tables
-  Both = bothTables (sizesOf a b) next0 out0 next1 out1
+  Both = bothTables (sizesOf a b allowed) next0 out0 next1 out1
 
   same-vectors : vectorsOf b ≡ vectorsOf a
   same-vectors = ap (λ (n : ℕ). 2 ^ n) (sym same)
 
-  pub tables-agree : SameSteps (sizesOf a b) (oldMachine Both) (newMachine Both) (machineOf a) (machineOf b)
+  pub tables-agree : SameSteps (sizesOf a b allowed) (oldMachine Both) (newMachine Both) (machineOf a) (machineOf b)
   tables-agree = record {
-    old = table-machine a (vectorsOf a) next0 out0 refl h0 (Ok (sizesOf a b)) (λ w o. o .below);
-    new = table-machine b (vectorsOf a) next1 out1 same-vectors h1 (Ok (sizesOf a b)) (λ w o. o .below);
+    old = table-machine a (vectorsOf a) next0 out0 refl h0 (Ok (sizesOf a b allowed)) (λ w o. o .below);
+    new = table-machine b (vectorsOf a) next1 out1 same-vectors h1 (Ok (sizesOf a b allowed)) (λ w o. o .below);
   }
 
   -- of 11, 12 and 13 only short scratch can be found
   pub tables-fault : (room : ℕ) → Accepted a → Accepted b
       → sizeOf a ≤ length next0 → sizeOf a ≤ length out0 → sizeOf b ≤ length next1 → sizeOf b ≤ length out1
-      → (n : ℕ) → TablesFault Both room n → (n ≡ 12) × (room < pairs (sizesOf a b))
+      → (n : ℕ) → TablesFault Both room n → (n ≡ 12) × (room < pairs (sizesOf a b allowed))
   tables-fault room x y p q r s n f = go f
     where
       size-b : sizeOf b ≡ statesOf b * vectorsOf a
       size-b = ap (λ (n : ℕ). statesOf b * n) same-vectors
 
-      no-range : OutOfRange (sizesOf a b) → ⊥
+      no-range : OutOfRange (sizesOf a b allowed) → ⊥
       no-range (OutOfRange.old-none z) = omega (arith, states-some a)
       no-range (OutOfRange.old-many z) = omega (arith, states-few x)
       no-range (OutOfRange.new-none z) = omega (arith, states-some b)
@@ -82,14 +82,14 @@ module _ (a b : Design) (next0 out0 next1 out1 : List ℕ) (same : a .inputs ≡
       no-range (OutOfRange.vectors-none z) = omega (arith, vectors-some a)
       no-range (OutOfRange.vectors-many z) = omega (arith, vectors-few x)
 
-      short : TooShort Both room → room < pairs (sizesOf a b)
+      short : TooShort Both room → room < pairs (sizesOf a b allowed)
       short (TooShort.old-next z) = absurd (omega (arith, z, p))
       short (TooShort.old-out z) = absurd (omega (arith, z, q))
       short (TooShort.new-next z) = absurd (omega (arith, z, r, size-b))
       short (TooShort.new-out z) = absurd (omega (arith, z, s, size-b))
       short (TooShort.lent z) = z
 
-      go : {n : ℕ} → TablesFault Both room n → (n ≡ 12) × (room < pairs (sizesOf a b))
+      go : {n : ℕ} → TablesFault Both room n → (n ≡ 12) × (room < pairs (sizesOf a b allowed))
       go (TablesFault.range z) = absurd (no-range z)
       go (TablesFault.short z) = (refl, short z)
       go (TablesFault.old-leads (LeadsOut.leads i l z)) = absurd (omega (arith, z, table-stays a (vectorsOf a) next0 out0 refl h0 i l))

@@ -14,7 +14,8 @@ use Rattle.simulator.proofs.Determined.{Slices, holds-unique, cleared-unique}
 use Rattle.simulator.proofs.Same.{same-holds, both-fault}
 use Rattle.machine.specs.declared.Sizes.{Sizes}
 use Rattle.machine.specs.Meaning.Machine.{Machine}
-use Rattle.machine.specs.Meaning.Tables.{pairs}
+use Rattle.machine.specs.Meaning.Allowed.{WrongAllowed}
+use Rattle.machine.specs.Meaning.Tables.{pairs, Ok}
 use Rattle.machine.specs.Meaning.Lent.{Lent, Left, Tidy}
 use Rattle.machine.specs.Working.Pairs.{Closed}
 use Rattle.machine.proofs.Lent.{same-left}
@@ -26,7 +27,7 @@ use Rattle.compare.specs.Meaning.Designs.{machineOf, sizesOf}
 use Rattle.compare.specs.Meaning.Comparing.{TablesLent, TablesLeft, CompareFault, Compared, ClearedAll, TablesKept, Compares}
 use Rattle.compare.proofs.Agreement.{tables-agree}
 
-module _ (a b : Design) (n : TablesLent) (s : Lent) (t u : TablesLeft) (e f : Left) (i : TablesKept n t) (j : TablesKept n u) (x : Tidy s e) (y : Tidy s f) where
+module _ (a b : Design) (allowed : ℕ) (n : TablesLent) (s : Lent) (t u : TablesLeft) (e f : Left) (i : TablesKept n t) (j : TablesKept n u) (x : Tidy s e) (y : Tidy s f) where
   long : length (e .written) ≡ length (f .written)
   long = x .written ∙ sym (y .written)
 
@@ -42,18 +43,18 @@ module _ (a b : Design) (n : TablesLent) (s : Lent) (t u : TablesLeft) (e f : Le
   same-all : t ≡ u → e .written ≡ f .written → _≡_ {A = TablesLeft × Left} (t, e) (u, f)
   same-all p w = let q = same-left s e f x y w in λ k. (p k, q k)
 
-  answers-unique : Free (CompareFault a b n s) → (p q : Decision) → Compared a b t e p → Compared a b u f q → (p ≡ q) × (_≡_ {A = TablesLeft × Left} (t, e) (u, f))
+  answers-unique : Free (CompareFault a b allowed n s) → (p q : Decision) → Compared a b allowed t e p → Compared a b allowed u f q → (p ≡ q) × (_≡_ {A = TablesLeft × Left} (t, e) (u, f))
   answers-unique none p q g h = (
-    decision-unique (machineOf a) (machineOf b) (sizesOf a b) closed (e .written) (f .written) long p q (g .decided) (h .decided),
+    decision-unique (machineOf a) (machineOf b) (sizesOf a b allowed) closed (e .written) (f .written) long p q (g .decided) (h .decided),
     same-all (same-tables (holds-unique (old t) (old u) (i .old-next ∙ sym (j .old-next)) (i .old-out ∙ sym (j .old-out)) a (g .old) (h .old)) (holds-unique (new t) (new u) (i .new-next ∙ sym (j .new-next)) (i .new-out ∙ sym (j .new-out)) b (g .new) (h .new)))
-        (list-unique (machineOf a) (machineOf b) (sizesOf a b) closed (e .written) (f .written) long p q (g .decided) (h .decided)),
+        (list-unique (machineOf a) (machineOf b) (sizesOf a b allowed) closed (e .written) (f .written) long p q (g .decided) (h .decided)),
   )
     where
       same-inputs : a .inputs ≡ b .inputs
       same-inputs = stable (a .inputs) (b .inputs) (λ d. none 10 (CompareFault.tabulating (BothFault.interface (InterfaceFault.other-inputs d))))
 
-      closed : Closed (machineOf a) (machineOf b) (sizesOf a b)
-      closed = same-closed (same-back (tables-agree a b (t .old-next) (t .old-out) (t .new-next) (t .new-out) same-inputs (g .old) (g .new)))
+      closed : Closed (machineOf a) (machineOf b) (sizesOf a b allowed)
+      closed = same-closed (same-back (tables-agree a b allowed (t .old-next) (t .old-out) (t .new-next) (t .new-out) same-inputs (g .old) (g .new)))
 
   refusals-unique : ClearedAll t e → ClearedAll u f → _≡_ {A = TablesLeft × Left} (t, e) (u, f)
   refusals-unique g h =
@@ -61,40 +62,41 @@ module _ (a b : Design) (n : TablesLent) (s : Lent) (t u : TablesLeft) (e f : Le
       (zero-unique (e .written) (f .written) long (g .list) (h .list))
 
 -- the answer with its counts, the tables and every other slice are determined by the designs and the lengths of the slices
-pub compares-unique : (a b : Design) (n : TablesLent) (s : Lent) (t u : TablesLeft) (e f : Left) (q r : Judged)
-    → Compares a b n s t e q → Compares a b n s u f r → (q ≡ r) × (_≡_ {A = TablesLeft × Left} (t, e) (u, f))
-compares-unique a b n s t u e f q r g h =
-    let w = kept-unique (CompareFault a b n s) (λ (l : TablesLeft × Left). Compared a b (l .0) (l .1)) (λ (l : TablesLeft × Left). ClearedAll (l .0) (l .1)) (t, e) (u, f)
-    (answers-unique a b n s t u e f (g .tables) (h .tables) (g .tidy) (h .tidy)) (refusals-unique a b n s t u e f (g .tables) (h .tables) (g .tidy) (h .tidy))
+pub compares-unique : (a b : Design) (allowed : ℕ) (n : TablesLent) (s : Lent) (t u : TablesLeft) (e f : Left) (q r : Judged)
+    → Compares a b allowed n s t e q → Compares a b allowed n s u f r → (q ≡ r) × (_≡_ {A = TablesLeft × Left} (t, e) (u, f))
+compares-unique a b allowed n s t u e f q r g h =
+    let w = kept-unique (CompareFault a b allowed n s) (λ (l : TablesLeft × Left). Compared a b allowed (l .0) (l .1)) (λ (l : TablesLeft × Left). ClearedAll (l .0) (l .1)) (t, e) (u, f)
+    (answers-unique a b allowed n s t u e f (g .tables) (h .tables) (g .tidy) (h .tidy)) (refusals-unique a b allowed n s t u e f (g .tables) (h .tables) (g .tidy) (h .tidy))
     (verdictReply (q .verdict)) (verdictReply (r .verdict)) (g .keeps) (h .keeps) in
-    (judged-one (machineOf a) (machineOf b) (sizesOf a b) (reply-one (q .verdict) (r .verdict) (w .0)) (g .counts) (h .counts), w .1)
+    (judged-one (machineOf a) (machineOf b) (sizesOf a b allowed) (reply-one (q .verdict) (r .verdict) (w .0)) (g .counts) (h .counts), w .1)
 
 -- "A design's entries beyond G, L and O count for nothing"
 same-machine : (a c : Design) → SameDesign a c → machineOf a ≡ machineOf c
 same-machine a c w = λ j. record { next = λ s v. same-next a c w s v j; out = λ s v. same-outputs a c w s v j }
 
-module _ (a b c d : Design) (p : SameDesign a c) (q : SameDesign b d) where
-  same-sizes : sizesOf a b ≡ sizesOf c d
-  same-sizes = let x = same-states a c p in let y = same-states b d q in let v = same-vectors a c p in λ j. record { old = x j; new = y j; vectors = v j }
+module _ (a b c d : Design) (allowed : ℕ) (p : SameDesign a c) (q : SameDesign b d) where
+  same-sizes : sizesOf a b allowed ≡ sizesOf c d allowed
+  same-sizes = let x = same-states a c p in let y = same-states b d q in let v = same-vectors a c p in λ j. record { old = x j; new = y j; vectors = v j; allowed = allowed }
 
   -- what holds of the machines and sizes of a and b holds of those of c and d
-  there : (P : Machine → Machine → Sizes → Type 0) → P (machineOf a) (machineOf b) (sizesOf a b) → P (machineOf c) (machineOf d) (sizesOf c d)
+  there : (P : Machine → Machine → Sizes → Type 0) → P (machineOf a) (machineOf b) (sizesOf a b allowed) → P (machineOf c) (machineOf d) (sizesOf c d allowed)
   there P h =
       subst (λ (z : Sizes). P (machineOf c) (machineOf d) z) same-sizes
-      (subst (λ (m : Machine). P (machineOf c) m (sizesOf a b)) (same-machine b d q) (subst (λ (m : Machine). P m (machineOf b) (sizesOf a b)) (same-machine a c p) h))
+      (subst (λ (m : Machine). P (machineOf c) m (sizesOf a b allowed)) (same-machine b d q) (subst (λ (m : Machine). P m (machineOf b) (sizesOf a b allowed)) (same-machine a c p) h))
 
-  compare-fault : (n : TablesLent) (s : Lent) (k : ℕ) → CompareFault a b n s k → CompareFault c d n s k
+  compare-fault : (n : TablesLent) (s : Lent) (k : ℕ) → CompareFault a b allowed n s k → CompareFault c d allowed n s k
   compare-fault n s k (CompareFault.tabulating f) = CompareFault.tabulating (both-fault a b c d p q _ _ _ _ k f)
   compare-fault n s k (CompareFault.scratch h) = CompareFault.scratch (there (λ m0 m1 z. min (s .depth) (s .reach) < pairs z) h)
-  compare-fault n s k (CompareFault.list f) = CompareFault.list (there (λ m0 m1 z. ShortList m0 m1 z (s .written) k) f)
+  compare-fault n s k (CompareFault.vectors o) = CompareFault.vectors (there (λ m0 m1 z. WrongAllowed z) o)
+  compare-fault n s k (CompareFault.list f) = CompareFault.list (there (λ m0 m1 z. ShortList m0 m1 (Ok z) z (s .written) k) f)
 
-pub same-comparison : (a b c d : Design) → SameDesign a c → SameDesign b d → (n : TablesLent) (s : Lent) (t : TablesLeft) (e : Left) (r : Judged)
-    → Compares a b n s t e r → Compares c d n s t e r
-same-comparison a b c d p q n s t e r h = record {
-  keeps = keeps-map (compare-fault a b c d p q n s) (compare-fault c d a b (same-sym p) (same-sym q) n s)
-      (λ x w. record { decided = there a b c d p q (λ m0 m1 z. Decided m0 m1 z (e .written) x) (w .decided); old = same-holds a c p _ _ (w .old); new = same-holds b d q _ _ (w .new) })
+pub same-comparison : (a b c d : Design) (allowed : ℕ) → SameDesign a c → SameDesign b d → (n : TablesLent) (s : Lent) (t : TablesLeft) (e : Left) (r : Judged)
+    → Compares a b allowed n s t e r → Compares c d allowed n s t e r
+same-comparison a b c d allowed p q n s t e r h = record {
+  keeps = keeps-map (compare-fault a b c d allowed p q n s) (compare-fault c d a b allowed (same-sym p) (same-sym q) n s)
+      (λ x w. record { decided = there a b c d allowed p q (λ m0 m1 z. Decided m0 m1 (Ok z) z (e .written) x) (w .decided); old = same-holds a c p _ _ (w .old); new = same-holds b d q _ _ (w .new) })
       (λ w. w) (verdictReply (r .verdict)) (h .keeps);
   tidy = h .tidy;
   tables = h .tables;
-  counts = there a b c d p q (λ m0 m1 z. CountsBeside m0 m1 z (verdictReply (r .verdict)) (r .alike) (r .alignable)) (h .counts);
+  counts = there a b c d allowed p q (λ m0 m1 z. CountsBeside m0 m1 (Ok z) z (verdictReply (r .verdict)) (r .alike) (r .alignable)) (h .counts);
 }

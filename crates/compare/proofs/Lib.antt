@@ -2,3 +2,4 @@ pub mod Agreement
 pub mod Comparison
 pub mod Demand
 pub mod Determined
+pub mod Before

@@ -10,10 +10,12 @@ use simulator::TabulatedBoth;
 use verdict::Judged;
 use verdict::Verdict;
 
-// The verdict on two designs, with its list or trace and the counts of alike and of alignable pairs, and the tables of both.
+// The verdict on two designs whose inputs show allowed vectors alone, with its list or trace and the counts of alike and of alignable
+// pairs, and the tables of both.
 pub fn compare(
     old: Design,
     new: Design,
+    allowed: u64,
     old_next: &mut [u8],
     old_out: &mut [u8],
     new_next: &mut [u8],
@@ -22,7 +24,7 @@ pub fn compare(
     reach: &mut [u16],
     list: &mut [u8],
 ) -> Judged
-    ensures { λ r. ⌜ Compares old new (tablesLentOf (length (now («old_next» .entry))) (length (now («old_out» .entry))) (length (now («new_next» .entry))) (length (now («new_out» .entry)))) (lentOf (length (now (depth .entry))) (length (now (reach .entry))) (length (now (list .entry)))) (tablesLeftOf (now («old_next» .exit)) (now («old_out» .exit)) (now («new_next» .exit)) (now («new_out» .exit))) (leftOf (now (depth .exit)) (now (reach .exit)) (now (list .exit))) r ⌝ }
+    ensures { λ r. ⌜ Compares old new allowed (tablesLentOf (length (now («old_next» .entry))) (length (now («old_out» .entry))) (length (now («new_next» .entry))) (length (now («new_out» .entry)))) (lentOf (length (now (depth .entry))) (length (now (reach .entry))) (length (now (list .entry)))) (tablesLeftOf (now («old_next» .exit)) (now («old_out» .exit)) (now («new_next» .exit)) (now («new_out» .exit))) (leftOf (now (depth .exit)) (now (reach .exit)) (now (list .exit))) r ⌝ }
 {
     let tabulated = simulator::tabulate_both(old, new, old_next, old_out, new_next, new_out);
     match tabulated {
@@ -44,6 +46,7 @@ pub fn compare(
                 old: old_states,
                 new: new_states,
                 vectors,
+                allowed,
             };
             judge_or_clear(
                 old_next,

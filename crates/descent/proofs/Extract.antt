@@ -43,14 +43,14 @@ module _ (z : Sizes) (next0 next1 d : List ℕ) where
         go : (l : List ℕ) → Leads (move z next0 next1) (Ok z) (Ones z d) p l → length l ≡ suc k → z .vectors ≤ v → ⊥
         go [] x m g = omega arith
         go (u ∷ us) x m g =
-            o .none g u (x .allowed .0 .below) (record { leads = goes-on (move z next0 next1) (Ok z) (Ones z d) (In z) (closed z w) (at z d) c p i k h u us x (omega arith) })
+            o .none g u (x .allowed .0 .below) (record { ok = x .allowed .0; leads = goes-on (move z next0 next1) (Ok z) (Ones z d) (In z) (closed z w) (at z d) c p i k h u us x (omega arith) })
 
         pick : Dec (v < z .vectors) → Dist (move z next0 next1) (Ok z) (Ones z d) p (suc k) → v < z .vectors
         pick (yes a) y = a
         pick (no a) y = absurd (go (y .list) (y .leads) (y .long) (omega arith))
 
     chosen-to : {s : Prior} (p : Pair) → In z p → (k v : ℕ) → at z d p ≡ suc (suc k) → ChosenBelow s (To z next0 next1 d (suc k) p) (z .vectors) v → Chosen s (Down (move z next0 next1) (Ok z) (at z d) (suc k) p) v
-    chosen-to p i k v h o = chosen-there (λ q. (record { below = q .0 }, q .1 .leads)) (λ x q. (q .0 .below, record { leads = q .1 })) (o .found (found p i k v h o))
+    chosen-to p i k v h o = chosen-there (λ q. (q .1 .ok, q .1 .leads)) (λ x q. (q .0 .below, record { ok = q .0; leads = q .1 })) (o .found (found p i k v h o))
 
     pub going-start : (p : Pair) (s : Prior) (list : List ℕ) → Descent z d p list → (x : ℕ) → x ≡ at z d p → Going p s list p s 0 (x - 1) list
     going-start p s list g x e = record {

@@ -1,5 +1,5 @@
 -- What a walk down a map promises. z are the sizes, next0 and next1 the tables of next states, d the map.
---   To .. k p v              the vector v leads from the pair p to a pair for which the map holds k
+--   To .. k p v              the vector v is allowed, and leads from the pair p to a pair for which the map holds k
 --   Descent, Descended       what a walk down a map needs, and what it leaves
 use mathlib.Core.Path.{_≡_}
 use mathlib.Core.List.{List}
@@ -14,6 +14,7 @@ use Rattle.machine.specs.Working.Order.{First}
 use Rattle.places.specs.Working.{move, Ones}
 
 pub record To (z : Sizes) (next0 next1 d : List ℕ) (k : ℕ) (p : Pair) (v : ℕ) : Type 0 where
+  pub ok : Ok z v
   pub leads : at z d (move z next0 next1 p v) ≡ k
 
 -- the pair is in the map, and its list fits

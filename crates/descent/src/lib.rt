@@ -41,8 +41,8 @@ pub fn descend(
     q
 }
 
-// The vector to take from the pair p to a pair for which the map holds k: that of the step before, where it leads there, and else the
-// lowest; or the number of vectors.
+// The vector to take from the pair p to a pair for which the map holds k: that of the step before, where it is allowed and leads there,
+// and else the lowest allowed; or the number of vectors.
 fn chosen(
     old_next: &[u8],
     new_next: &[u8],
@@ -66,7 +66,7 @@ fn chosen(
     lowest(old_next, new_next, sizes, map, k, p)
 }
 
-// Whether the vector v leads from the pair p to a pair for which the map holds k.
+// Whether the vector v is allowed, and leads from the pair p to a pair for which the map holds k.
 fn lands(
     old_next: &[u8],
     new_next: &[u8],
@@ -81,11 +81,14 @@ fn lands(
     requires { ⌜ v < sizes .vectors ⌝ }
     ensures { λ r. ⌜ Tells r (To sizes (now («old_next» .entry)) (now («new_next» .entry)) (now (map .entry)) k p v) ⌝ }
 {
+    if !places::allows(sizes, v) {
+        return false;
+    }
     let q = places::next(old_next, new_next, sizes, p, v);
     places::map_at(sizes, map, q) == k
 }
 
-// The lowest vector that leads from the pair p to a pair for which the map holds k, or the number of vectors.
+// The lowest allowed vector that leads from the pair p to a pair for which the map holds k, or the number of vectors.
 fn lowest(old_next: &[u8], new_next: &[u8], sizes: Sizes, map: &[u16], k: usize, p: Pair) -> usize
     requires { ⌜ Walk sizes (now «old_next») (now «new_next») (now map) ⌝ }
     requires { ⌜ In sizes p ⌝ }

@@ -20,8 +20,9 @@ use Rattle.machine.proofs.Lent.{same-left}
 use Rattle.machine.proofs.Rounds.{round-unique}
 use Rattle.machine.specs.Working.Pairs.{pairAt}
 use Rattle.machine.proofs.Numbers.{pairAt-in, at-pair}
-use Rattle.machine.specs.Meaning.Faults.{TablesFault, StateFault}
-use Rattle.table_faults.proofs.Refusals.{fault-some}
+use Rattle.machine.specs.Meaning.Faults.{VectorsFault}
+use Rattle.table_faults.proofs.Refusals.{vectors-some}
+use Rattle.opening.proofs.States.{state-some}
 use Rattle.engine.specs.declared.MappedAlike.{MappedAlike}
 use Rattle.engine.specs.declared.MappedAlignable.{MappedAlignable}
 use Rattle.machine.specs.Meaning.Lent.{Lent, Left, Tidy, Listed}
@@ -30,15 +31,10 @@ use Rattle.engine.specs.Meaning.Pairs.{foundReply, PairFault, Finds, Fin
 
 -- no reason has a number below 11
 pub alike-not-zero : {t : Tables} {s : Lent} {e : Left} → MapsAlike t s e (MappedAlike.Refused 0) → ⊥
-alike-not-zero m = omega (arith, fault-some (m .keeps .0 .applies))
+alike-not-zero m = omega (arith, vectors-some (m .keeps .0 .applies))
 
 pub alignable-not-zero : {t : Tables} {s : Lent} {e : Left} → MapsAlignable t s e (MappedAlignable.Refused 0) → ⊥
-alignable-not-zero m = omega (arith, fault-some (m .keeps .0 .applies))
-
-state-some : {t : Tables} {room : ℕ} {p : Pair} {n : ℕ} → StateFault t room p n → 11 ≤ n
-state-some (StateFault.call f) = fault-some f
-state-some (StateFault.old-state h) = omega arith
-state-some (StateFault.new-state h) = omega arith
+alignable-not-zero m = omega (arith, vectors-some (m .keeps .0 .applies))
 
 module _ {t : Tables} {s : Lent} {p : Pair} {None : Type 0} {Sought : List ℕ → Type 0} where
   pair-some : {n : ℕ} → PairFault t s p None Sought n → 11 ≤ n
@@ -123,7 +119,7 @@ of-found (Found.Refused n) = refl
 module _ (t : Tables) (s : Lent) (e f : Left) where
   pub maps-alike-unique : (r u : MappedAlike) → MapsAlike t s e r → MapsAlike t s f u → (r ≡ u) × (e ≡ f)
   maps-alike-unique r u x y =
-      let both = calls-unique (TablesFault t (roomOf s)) (MarksAlike t) one s e f (x .tidy) (y .tidy) (alikeReply r) (alikeReply u) (x .keeps) (y .keeps) in
+      let both = calls-unique (VectorsFault t (roomOf s)) (MarksAlike t) one s e f (x .tidy) (y .tidy) (alikeReply r) (alikeReply u) (x .keeps) (y .keeps) in
       (sym (of-alike r) ∙ ap alikeOf (both .0) ∙ of-alike u, both .1)
     where
       one : (l k : List ℕ) → length l ≡ length k → (a b : AlikeCount) → MarksAlike t l a → MarksAlike t k b → (a ≡ b) × (l ≡ k)
@@ -134,7 +130,7 @@ module _ (t : Tables) (s : Lent) (e f : Left) where
 
   pub maps-alignable-unique : (r u : MappedAlignable) → MapsAlignable t s e r → MapsAlignable t s f u → (r ≡ u) × (e ≡ f)
   maps-alignable-unique r u x y =
-      let both = calls-unique (TablesFault t (roomOf s)) (Marks (AlignableIn t) (t .sizes)) (λ l k long a b p q. (same-count p q long, same-marks p q long))
+      let both = calls-unique (VectorsFault t (roomOf s)) (Marks (AlignableIn t) (t .sizes)) (λ l k long a b p q. (same-count p q long, same-marks p q long))
       s e f (x .tidy) (y .tidy) (alignableReply r) (alignableReply u) (x .keeps) (y .keeps) in
       (sym (of-alignable r) ∙ ap alignableOf (both .0) ∙ of-alignable u, both .1)
 

@@ -1,3 +1,4 @@
 pub mod Marks
 pub mod Finds
 pub mod Determined
+pub mod Before

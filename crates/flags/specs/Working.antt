@@ -1,6 +1,6 @@
 -- What flags say. z are the sizes, out0 and out1 the tables of outputs, d and d′ a map before and after.
---   Different .. p v         the vector v shows different outputs at the pair p
---   DiffersAt .. q           some vector shows different outputs at the pair numbered q
+--   Different .. p v         the vector v is allowed, and shows different outputs at the pair p
+--   DiffersAt .. q           some allowed vector shows different outputs at the pair numbered q
 --   Flagged P n d d′         the first n entries of d′ say where P holds, and the others are those of d
 use mathlib.Core.Path.{_≡_}
 use mathlib.Core.List.{List}
@@ -12,6 +12,7 @@ use Rattle.machine.specs.Meaning.Tables.{entry, Ok, Flag}
 use Rattle.machine.specs.Working.Pairs.{pairAt, Differs}
 
 pub record Different (z : Sizes) (out0 out1 : List ℕ) (p : Pair) (v : ℕ) : Type 0 where
+  pub ok : Ok z v
   pub differs : entry z out0 (p .old) v ≡ entry z out1 (p .new) v → ⊥
 
 abbrev pub DiffersAt : Sizes → List ℕ → List ℕ → ℕ → Type 0

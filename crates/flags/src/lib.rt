@@ -1,5 +1,5 @@
-// Maps and marks that say 1 where something holds of a pair and 0 elsewhere: where some vector shows different outputs, where a map holds
-// 0, where it holds more. And which vector to take to show different outputs.
+// Maps and marks that say 1 where something holds of a pair and 0 elsewhere: where some allowed vector shows different outputs, where a
+// map holds 0, where it holds more. And which vector to take to show different outputs.
 ghost use mathlib.Core.Path.{_≡_};
 ghost use Prim.Native.Nat.{_<_, _≤_};
 ghost use lib.ListN.{length, getD};
@@ -12,7 +12,7 @@ use machine::Pair;
 use machine::Prior;
 use machine::Sizes;
 
-// The map becomes 1 where some vector shows different outputs, and 0 elsewhere.
+// The map becomes 1 where some allowed vector shows different outputs, and 0 elsewhere.
 pub fn differ(old_out: &[u8], new_out: &[u8], sizes: Sizes, map: &mut [u16])
     requires { ⌜ Outs sizes (now «old_out») (now «new_out») ⌝ }
     requires { ⌜ pairs sizes ≤ length (now map) ⌝ }
@@ -32,8 +32,8 @@ pub fn differ(old_out: &[u8], new_out: &[u8], sizes: Sizes, map: &mut [u16])
     }
 }
 
-// The vector to take to show different outputs at the pair p: that of the step before, where it shows them, and else the lowest; or the
-// number of vectors.
+// The vector to take to show different outputs at the pair p: that of the step before, where it is allowed and shows them, and else the
+// lowest allowed; or the number of vectors.
 pub fn chosen_different(
     old_out: &[u8],
     new_out: &[u8],
@@ -94,7 +94,7 @@ pub fn mark_positive(map: &[u16], n: usize, mark: &mut [u8]) -> usize
     count
 }
 
-// The lowest vector that shows different outputs at the pair p, or the number of vectors.
+// The lowest allowed vector that shows different outputs at the pair p, or the number of vectors.
 fn different_vector(old_out: &[u8], new_out: &[u8], sizes: Sizes, p: Pair) -> usize
     requires { ⌜ Outs sizes (now «old_out») (now «new_out») ⌝ }
     requires { ⌜ In sizes p ⌝ }
@@ -110,13 +110,16 @@ fn different_vector(old_out: &[u8], new_out: &[u8], sizes: Sizes, p: Pair) -> us
     vector
 }
 
-// Whether the vector v shows different outputs at the pair p.
+// Whether the vector v is allowed, and shows different outputs at the pair p.
 fn shows(old_out: &[u8], new_out: &[u8], sizes: Sizes, p: Pair, v: usize) -> bool
     requires { ⌜ Outs sizes (now «old_out») (now «new_out») ⌝ }
     requires { ⌜ In sizes p ⌝ }
     requires { ⌜ v < sizes .vectors ⌝ }
     ensures { λ r. ⌜ Tells r (Different sizes (now («old_out» .entry)) (now («new_out» .entry)) p v) ⌝ }
 {
+    if !places::allows(sizes, v) {
+        return false;
+    }
     let i = places::place_of(p.old, v, sizes.old, sizes.vectors);
     let j = places::place_of(p.new, v, sizes.new, sizes.vectors);
     let a = places::byte_at(old_out, i);

@@ -2,3 +2,4 @@
 pub mod Order
 pub mod Maps
 pub mod Pairs
+pub mod Sets

@@ -50,6 +50,10 @@ none-before-map from (NoneBefore.later n f) = NoneBefore.later (λ q. n (from _ 
 pub first-map : {K : Type 0} {P Q : K → Type 0} {ks : List K} {k : K} → ((j : K) → P j → Q j) → ((j : K) → Q j → P j) → FirstIn P ks k → FirstIn Q ks k
 first-map {k = k} to from f = record { applies = to k (f .applies); first = none-before-map from (f .first) }
 
+-- fewer conditions, of which the first is one
+pub first-fewer : {K : Type 0} {P Q : K → Type 0} {ks : List K} {k : K} → ((j : K) → Q j → P j) → FirstIn P ks k → Q k → FirstIn Q ks k
+first-fewer from f q = record { applies = q; first = none-before-map from (f .first) }
+
 -- of two numbers that are first, each for one thing, the earlier is first for both together
 pub earlier-left : (k : ℕ) (ks : List ℕ) (a b : ℕ) → k ≡ a → earlier (k ∷ ks) a b ≡ a
 unfolding earlier

@@ -1,6 +1,6 @@
--- Places in the order: the earlier of two numbers, and where each number stands.
+-- Places in the order: the earlier of two numbers, where each number stands, and the first number by its place.
 use Prim.Native.Nat.{ℕ, zero, suc, _+_, _-_, _<_, _≤_, min}
-use mathlib.Core.Path.{_≡_, refl, sym, _∙_}
+use mathlib.Core.Path.{_≡_, refl, sym, _∙_, subst}
 use mathlib.Core.Logic.{_⊎_, ⊎-elim}
 use mathlib.Core.Bool.{Bool, true, cond, _&&_, _||_}
 use mathlib.Core.List.{List, [], _∷_}
@@ -9,15 +9,16 @@ use native.Mathlib.Decide.{ℕ-discrete, decLt}
 use borrow.Author.Tests.{lt-ltb, le-ltb, eq-eqb, ne-eqb}
 use lib.Dec.{T, ltb, leb, eqb, leb→le, eqb→eq, leb·suc-suc}
 use lib.ListN.{length}
-use Rattle.memory.specs.Meaning.Orders.{tableOrder, earlier}
-use Rattle.memory.specs.Meaning.Refusals.{earlierNumber}
+use Rattle.memory.specs.Meaning.Orders.{NoneBefore, tableOrder, earlier}
+use Rattle.memory.specs.Meaning.Refusals.{First, earlierNumber}
 use Rattle.memory.specs.Working.Lowest.{placeIn}
+use Rattle.memory.proofs.Orders.{Stands}
 use Rattle.memory.proofs.Computed.{every-at, and-left, and-right, or-split, or-right}
 
--- a test that computes on the order: no number but 19 is over 16
+-- a test that computes on the order: no number but 19 and 20 is over 16
 abbrev known : List ℕ → Bool
 known [] = true
-known (k ∷ ks) = (leb k 16 || eqb k 19) && known ks
+known (k ∷ ks) = (leb k 16 || (eqb k 19 || eqb k 20)) && known ks
 
 -- the earlier of two numbers by their places
 earlier-place : (ks : List ℕ) (a b : ℕ) → earlier ks a b ≡ cond (ltb (placeIn ks b) (placeIn ks a)) b a
@@ -56,20 +57,59 @@ unfolding placeIn
 place-low zero h l = absurd (omega arith)
 place-low (suc n) h l = omega (arith, eqb→eq (placeIn tableOrder (suc n)) n (every-at (λ i. eqb (placeIn tableOrder (suc i)) i) 9 n tt (omega arith)))
 
-pub place-high : (n : ℕ) → 9 < n → n ≤ 16 → n ≡ placeIn tableOrder n
+pub place-high : (n : ℕ) → 9 < n → n ≤ 14 → n ≡ placeIn tableOrder n
 unfolding placeIn
-place-high n h l = sym (eqb→eq (placeIn tableOrder n) n (or-right (leb n 9) (eqb (placeIn tableOrder n) n) (every-at (λ i. leb i 9 || eqb (placeIn tableOrder i) i) 17 n tt (omega arith)) (λ t. omega (arith, leb→le n 9 t))))
+place-high n h l = sym (eqb→eq (placeIn tableOrder n) n (or-right (leb n 9) (eqb (placeIn tableOrder n) n) (every-at (λ i. leb i 9 || eqb (placeIn tableOrder i) i) 15 n tt (omega arith)) (λ t. omega (arith, leb→le n 9 t))))
 
-outside : (n : ℕ) (ks : List ℕ) → T (known ks) → 16 < n → (n ≡ 19 → ⊥) → length ks + n ≡ placeIn ks n
+pub place-20 : (n : ℕ) → n ≡ 20 → 15 ≡ placeIn tableOrder n
 unfolding placeIn
-outside n [] t h l = omega arith
-outside n (k ∷ ks) t h l = rw (ne-eqb k n (λ e. other e (or-split (leb k 16) (eqb k 19) (and-left (leb k 16 || eqb k 19) (known ks) t)))) (omega (arith, outside n ks (and-right (leb k 16 || eqb k 19) (known ks) t) h l))
+place-20 n e = rw e
+
+pub place-last : (n : ℕ) → 14 < n → n ≤ 16 → n + 1 ≡ placeIn tableOrder n
+unfolding placeIn
+place-last n h l = sym (eqb→eq (placeIn tableOrder n) (n + 1) (or-right (leb n 14) (eqb (placeIn tableOrder n) (n + 1)) (every-at (λ i. leb i 14 || eqb (placeIn tableOrder i) (i + 1)) 17 n tt (omega arith)) (λ t. omega (arith, leb→le n 14 t))))
+
+outside : (n : ℕ) (ks : List ℕ) → T (known ks) → 16 < n → (n ≡ 19 → ⊥) → (n ≡ 20 → ⊥) → length ks + n ≡ placeIn ks n
+unfolding placeIn
+outside n [] t h l m = omega arith
+outside n (k ∷ ks) t h l m = rw (ne-eqb k n (λ e. other e (or-split (leb k 16) (eqb k 19 || eqb k 20) (and-left (leb k 16 || (eqb k 19 || eqb k 20)) (known ks) t)))) (omega (arith, outside n ks (and-right (leb k 16 || (eqb k 19 || eqb k 20)) (known ks) t) h l m))
   where
-    other : k ≡ n → T (leb k 16) ⊎ T (eqb k 19) → ⊥
-    other e s = ⊎-elim (λ a. omega (arith, leb→le k 16 a)) (λ a. l (sym e ∙ eqb→eq k 19 a)) s
+    other : k ≡ n → T (leb k 16) ⊎ T (eqb k 19 || eqb k 20) → ⊥
+    other e s = ⊎-elim (λ a. omega (arith, leb→le k 16 a)) (λ a. ⊎-elim (λ b. l (sym e ∙ eqb→eq k 19 b)) (λ b. m (sym e ∙ eqb→eq k 20 b)) (or-split (eqb k 19) (eqb k 20) a)) s
 
-pub place-none : (n : ℕ) → 16 < n → (n ≡ 19 → ⊥) → 17 + n ≡ placeIn tableOrder n
-place-none n h l = outside n tableOrder tt h l
+pub place-none : (n : ℕ) → 16 < n → (n ≡ 19 → ⊥) → (n ≡ 20 → ⊥) → 18 + n ≡ placeIn tableOrder n
+place-none n h l m = outside n tableOrder tt h l m
+
+-- the first number that applies is the one whose place no other comes before: numbers need not rise
+module _ {P : ℕ → Type 0} where
+  none-before-place : {n : ℕ} (ks : List ℕ) → Stands ks n → ((m : ℕ) → P m → placeIn ks n ≤ placeIn ks m) → NoneBefore P ks n
+  unfolding placeIn
+  none-before-place ks Stands.first least = NoneBefore.here
+  none-before-place {n} (k ∷ ks) (Stands.behind s) least = go (none-before-place ks s) (ℕ-discrete k n)
+    where
+      behind : (k ≡ n → ⊥) → (m : ℕ) → P m → Dec (k ≡ m) → placeIn ks n ≤ placeIn ks m
+      behind d m p (yes e) = let l = least m p in absurd (omega (arith, rw (ne-eqb k n d, eq-eqb k m e) at l))
+      behind d m p (no c) = let l = least m p in omega (arith, rw (ne-eqb k n d, ne-eqb k m c) at l)
+
+      go : (((m : ℕ) → P m → placeIn ks n ≤ placeIn ks m) → NoneBefore P ks n) → Dec (k ≡ n) → NoneBefore P (k ∷ ks) n
+      go rest (yes e) = subst (λ (j : ℕ). NoneBefore P (j ∷ ks) n) (sym e) NoneBefore.here
+      go rest (no d) = NoneBefore.later (λ p. let l = least k p in omega (arith, rw (ne-eqb k n d, eq-eqb k k refl) at l)) (rest (λ m p. behind d m p (ℕ-discrete k m)))
+
+  place-none-before : {n m : ℕ} (ks : List ℕ) → NoneBefore P ks n → P m → placeIn ks n ≤ placeIn ks m
+  unfolding placeIn
+  place-none-before (k ∷ ks) NoneBefore.here p = rw (eq-eqb k k refl) (omega arith)
+  place-none-before {n} {m} (k ∷ ks) (NoneBefore.later a f) p = go (ℕ-discrete k m) (ℕ-discrete k n) (place-none-before ks f p)
+    where
+      go : Dec (k ≡ m) → Dec (k ≡ n) → placeIn ks n ≤ placeIn ks m → placeIn (k ∷ ks) n ≤ placeIn (k ∷ ks) m
+      go (yes e) t l = absurd (a (subst P (sym e) p))
+      go (no c) (yes e) l = rw (eq-eqb k n e) (omega arith)
+      go (no c) (no d) l = rw (ne-eqb k n d, ne-eqb k m c) (omega arith)
+
+  pub first-of-place : {n : ℕ} → Stands tableOrder n → P n → ((m : ℕ) → P m → placeIn tableOrder n ≤ placeIn tableOrder m) → First P n
+  first-of-place s p least = record { applies = p; first = none-before-place tableOrder s least }
+
+  pub place-of-first : {n m : ℕ} → First P n → P m → placeIn tableOrder n ≤ placeIn tableOrder m
+  place-of-first f p = place-none-before tableOrder (f .first) p
 
 -- 0 is none
 pub earlier-none : (a b : ℕ) → b ≡ 0 → earlierNumber a b ≡ a

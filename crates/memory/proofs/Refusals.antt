@@ -5,10 +5,12 @@ use mathlib.Core.Logic.{_⊎_, ⊎-elim}
 use native.Mathlib.Omega.{arith}
 use native.Mathlib.Decide.{ℕ-discrete}
 use borrow.Author.Count.{below-more}
-use Rattle.memory.specs.Meaning.Refusals.{Free, First, FirstOrNone, earlierNumber, Reply, answer, refusal, Keeps}
-use Rattle.memory.specs.Working.Lowest.{Numbered, Lowest}
-use Rattle.memory.proofs.Orders.{first-unique, first-map, first-earlier}
+use Rattle.memory.specs.Meaning.Refusals.{Free, First, FirstOrNone, earlierNumber, Reply, answer, refusal, Right, Keeps}
+use Rattle.memory.specs.Meaning.Orders.{tableOrder}
+use Rattle.memory.specs.Working.Lowest.{Numbered, Lowest, placeIn}
+use Rattle.memory.proofs.Orders.{first-unique, first-map, first-fewer, first-earlier}
 use Rattle.memory.proofs.Table.{first-numbered, numbered-of, first-of-lowest, lowest-of-first}
+use Rattle.memory.proofs.Places.{first-of-place, place-of-first}
 
 -- no number below k applies
 abbrev pub Clean : (ℕ → Type 0) → ℕ → Type 0
@@ -85,12 +87,6 @@ module _ (P Q R : ℕ → Type 0) (one : (n : ℕ) → P n → R n) (two : (n : 
   right-only : {n : ℕ} → Free P → First Q n → First R n
   right-only none f = first-map two (λ m r. ⊎-elim (λ p. absurd (none m p)) (λ q. q) (either m r)) f
 
-  -- P is looked for first, and every number of Q is higher
-  pub first-lower : Numbered R → {n : ℕ} → First P n → ((m : ℕ) → Q m → n ≤ m) → First R n
-  first-lower numbered {n} f above =
-      let l = lowest-of-first (numbered-of one numbered) f in
-      first-of-lowest numbered (record { applies = one n (l .applies); lower = λ m h r. ⊎-elim (λ p. l .lower m h p) (λ q. omega (arith, above m q)) (either m r) })
-
   -- nothing has P, so a reply that is right of Q is right
   pub keeps-second : {A : Type 0} (Answers : A → Type 0) (Cleared : Type 0) → Free P → (r : Reply A) → Keeps Q Answers Cleared r → Keeps R Answers Cleared r
   keeps-second Answers Cleared f (answer a) k = (λ n r. ⊎-elim (λ p. f n p) (λ q. k .0 n q) (either n r), k .1)
@@ -102,6 +98,19 @@ module _ (P Q R : ℕ → Type 0) (one : (n : ℕ) → P n → R n) (two : (n : 
   first-either zero (suc b) p q = some-number (right-only (p .none refl) (q .some (λ e. omega arith)))
   first-either (suc a) zero p q = some-number (left-only (p .some (λ e. omega arith)) (q .none refl))
   first-either (suc a) (suc b) p q = some-number (first-earlier one two either (p .some (λ e. omega arith)) (q .some (λ e. omega arith)))
+
+-- P is looked for first, and what else is in R stands no earlier than what was found
+pub first-then : {P R : ℕ → Type 0} {n : ℕ} → ((m : ℕ) → P m → R m) → First P n → ((m : ℕ) → R m → P m ⊎ (placeIn tableOrder n ≤ placeIn tableOrder m)) → First R n
+first-then {n = n} one f split = first-of-place (first-numbered f .1) (one n (f .applies)) (λ m r. ⊎-elim (λ p. place-of-first f p) (λ h. h) (split m r))
+
+-- what is in R and not in P has a number of P before it, so what keeps a promise over R keeps the one over P, by the lowest number
+module _ {P R : ℕ → Type 0} (numbered : Numbered P) (one : (m : ℕ) → P m → R m) (early : (m : ℕ) → R m → P m ⊎ ((k : ℕ) × P k × (placeIn tableOrder k < placeIn tableOrder m))) where
+  first-before : {n : ℕ} → First R n → First P n
+  first-before {n} f = first-fewer one f (⊎-elim (λ p. p) (λ q. absurd (omega (arith, place-of-first f (one (q .0) (q .1)), q .2))) (early n (f .applies)))
+
+  pub lowest-before : {A : Type 0} (Answers Others : A → Type 0) (Cleared : Type 0) → ((a : A) → Answers a → Others a) → (r : Reply A) → Keeps R Answers Cleared r → Right (Free P) (Lowest P) Others Cleared r
+  lowest-before Answers Others Cleared says (answer a) k = (λ m p. k .0 m (one m p), says a (k .1))
+  lowest-before Answers Others Cleared says (refusal n) k = (lowest-of-first numbered (first-before (k .0)), k .1)
 
 -- of the numbers of R those below k are P's, which are looked for first
 module _ (P R : ℕ → Type 0) (k : ℕ) (numbered : Numbered R) (one : (n : ℕ) → P n → R n) (early : (n : ℕ) → R n → n < k → P n) where

@@ -17,7 +17,7 @@ abbrev above-0 : List ℕ → Bool
 above-0 [] = true
 above-0 (k ∷ ks) = ltb 0 k && above-0 ks
 
-listed-stands : (n : ℕ) (ks : List ℕ) → T (listed n ks) → Stands ks n
+pub listed-stands : (n : ℕ) (ks : List ℕ) → T (listed n ks) → Stands ks n
 listed-stands n [] t = absurd t
 listed-stands n (k ∷ ks) t = ⊎-elim (λ e. subst (λ (j : ℕ). Stands (j ∷ ks) n) (sym (eqb→eq k n e)) Stands.first) (λ s. Stands.behind (listed-stands n ks s)) (or-split (eqb k n) (listed n ks) t)
 

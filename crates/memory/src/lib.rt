@@ -64,7 +64,8 @@ pub fn earlier_number(a: u8, b: u8) -> u8
     a
 }
 
-// Where a number stands in the order of refusals: 19 comes between 9 and 10, and a number without a place behind all that have one.
+// Where a number stands in the order of refusals: 19 comes between 9 and 10, 20 between 14 and 15, and a number without a place behind
+// all that have one.
 fn place(number: u8) -> usize
     requires { ⌜ 0 < number ⌝ }
     ensures { λ r. ⌜ r ≡ placeIn tableOrder number ⌝ }
@@ -72,8 +73,14 @@ fn place(number: u8) -> usize
     if number == 19 {
         return 9;
     }
+    if number == 20 {
+        return 15;
+    }
     if number > 16 {
-        return 17 + number as usize;
+        return 18 + number as usize;
+    }
+    if number > 14 {
+        return number as usize + 1;
     }
     if number > 9 {
         return number as usize;

@@ -4,13 +4,13 @@ ghost use Prim.Native.Nat.{min};
 ghost use lib.ListN.{length};
 ghost use Rattle.memory.specs.Meaning.Refusals.{FirstOrNone};
 ghost use Rattle.machine.specs.Meaning.Tables.{bothTables};
-ghost use Rattle.machine.specs.Meaning.Faults.{TablesFault, StateFault};
+ghost use Rattle.machine.specs.Meaning.Faults.{VectorsFault, StateFault};
 ghost use Rattle.machine.specs.Meaning.Lent.{lentOf, leftOf};
 ghost use Rattle.opening.specs.Working.{Emptied};
 use machine::Pair;
 use machine::Sizes;
 
-// Begins a map: the lowest number that turns it away, or 0, and every lent slice cleared.
+// Begins a map: the first number that turns it away, or 0, and every lent slice cleared.
 pub fn begin_map(
     old_next: &[u8],
     old_out: &[u8],
@@ -21,16 +21,16 @@ pub fn begin_map(
     reach: &mut [u16],
     mark: &mut [u8],
 ) -> u8
-    ensures { λ r. ⌜ FirstOrNone (TablesFault (bothTables sizes (now («old_next» .entry)) (now («old_out» .entry)) (now («new_next» .entry)) (now («new_out» .entry))) (min (length (now (mark .entry))) (min (length (now (depth .entry))) (length (now (reach .entry)))))) r ⌝ }
+    ensures { λ r. ⌜ FirstOrNone (VectorsFault (bothTables sizes (now («old_next» .entry)) (now («old_out» .entry)) (now («new_next» .entry)) (now («new_out» .entry))) (min (length (now (mark .entry))) (min (length (now (depth .entry))) (length (now (reach .entry)))))) r ⌝ }
     ensures { λ r. ⌜ Emptied (lentOf (length (now (depth .entry))) (length (now (reach .entry))) (length (now (mark .entry)))) (leftOf (now (depth .exit)) (now (reach .exit)) (now (mark .exit))) ⌝ }
 {
     let room = memory::shorter(mark.len(), memory::shorter(depth.len(), reach.len()));
-    let n = table_faults::call_fault(old_next, old_out, new_next, new_out, sizes, room);
+    let n = table_faults::vectors_fault(old_next, old_out, new_next, new_out, sizes, room);
     clear_lent(depth, reach, mark);
     n
 }
 
-// Begins a call for a pair: the lowest of 11 to 14 that turns it away, or 0, and every lent slice cleared.
+// Begins a call for a pair: the first of 11 to 14 and 20 that turns it away, or 0, and every lent slice cleared.
 pub fn begin_pair(
     old_next: &[u8],
     old_out: &[u8],
@@ -59,7 +59,7 @@ fn clear_lent(depth: &mut [u16], reach: &mut [u16], written: &mut [u8])
     memory::clear_bytes(written);
 }
 
-// The lowest of 11 to 14 that applies to a call for a pair, or 0.
+// The first of 11 to 14 and 20 that applies to a call for a pair, or 0.
 fn pair_fault(
     old_next: &[u8],
     old_out: &[u8],
@@ -80,6 +80,9 @@ fn pair_fault(
     }
     if pair.new >= sizes.new {
         return 14;
+    }
+    if table_faults::wrong_allowed(sizes) {
+        return 20;
     }
     0
 }

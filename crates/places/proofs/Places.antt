@@ -1,10 +1,14 @@
--- Places in tables, numbers of pairs, steps that stay within the sizes, and scans for the lowest number.
+-- Places in tables, numbers of pairs, allowed vectors, steps that stay within the sizes, and scans for the lowest number.
 use mathlib.Core.List.{List}
-use Prim.Native.Nat.{ℕ, _<_, _≤_, _+_, _*_}
+use Prim.Native.Nat.{ℕ, _<_, _≤_, _+_, _*_, _/_, _%_, _^_}
 use native.Mathlib.Omega.{arith}
 use native.Mathlib.Nat.{mul-le-mul}
 use lib.Arith.{digits-lt}
 use borrow.Author.Count.{below-more}
+use borrow.Author.Tests.{eqb-true, eqb-false}
+use lib.Dec.{eqb}
+use Rattle.memory.specs.Working.Tests.{Tells}
+use Rattle.memory.proofs.Tests.{tells-of}
 use Rattle.machine.specs.declared.Pair.{Pair}
 use Rattle.machine.specs.declared.Sizes.{Sizes}
 use Rattle.machine.specs.Meaning.Tables.{pairs, In, Ok}
@@ -18,6 +22,9 @@ row-small s n m a c d = omega (arith, mul-le-mul {n₁ = s} {n₂ = 128} (omega 
 
 pub few-pairs : {z : Sizes} → Few z → pairs z ≤ 16384
 few-pairs f = mul-le-mul (f .few-old) (f .few-new)
+
+pub tells-ok : (z : Sizes) (v : ℕ) → v < z .vectors → Tells (eqb (z .allowed / 2 ^ v % 2) 1) (Ok z v)
+tells-ok z v h = tells-of (eqb (z .allowed / 2 ^ v % 2) 1) (λ t. record { below = h; named = record { set = eqb-true (z .allowed / 2 ^ v % 2) 1 t } }) (λ t w. eqb-false (z .allowed / 2 ^ v % 2) 1 t (w .named .set))
 
 module _ (z : Sizes) where
   pub closed : {next0 next1 : List ℕ} → Nexts z next0 next1 → (p : Pair) (v : ℕ) → In z p → Ok z v → In z (move z next0 next1 p v)

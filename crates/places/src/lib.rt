@@ -1,10 +1,12 @@
-// Places in tables and maps: entries, numbers of pairs, the pair after a step, and the step before an entry of a list.
+// Places in tables and maps: entries, numbers of pairs, the pair after a step, and the step before an entry of a list; and which vectors
+// are allowed.
 ghost use mathlib.Core.Path.{_≡_};
 ghost use Prim.Native.Nat.{_<_, _≤_};
 ghost use lib.ListN.{length, getD, take};
 ghost use Rattle.machine.specs.declared.Prior.{Prior};
 ghost use Rattle.machine.specs.Meaning.Pick.{after};
-ghost use Rattle.machine.specs.Meaning.Tables.{pairs, at, In};
+ghost use Rattle.machine.specs.Meaning.Tables.{pairs, at, In, Ok};
+ghost use Rattle.memory.specs.Working.Tests.{Tells};
 ghost use Rattle.machine.specs.Working.Pairs.{pairAt};
 ghost use Rattle.places.specs.Working.{Few, Nexts, PlaceOf, move};
 use machine::Pair;
@@ -62,6 +64,15 @@ pub fn pair_at(sizes: Sizes, i: usize) -> Pair
     let old = i / sizes.new;
     let new = i % sizes.new;
     Pair { old, new }
+}
+
+// Whether the vector v is allowed.
+pub fn allows(sizes: Sizes, v: usize) -> bool
+    requires { ⌜ v < sizes .vectors ⌝ }
+    requires { ⌜ sizes .vectors ≤ 64 ⌝ }
+    ensures { λ r. ⌜ Tells r (Ok sizes v) ⌝ }
+{
+    (sizes.allowed >> v) % 2 == 1
 }
 
 // The pair after one step of both designs.

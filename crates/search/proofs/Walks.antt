@@ -9,7 +9,7 @@ use native.Mathlib.Numerals.{add-one}
 use lib.ListN.{length, getD, replicate, length-replicate}
 use Rattle.machine.specs.declared.Pair.{Pair}
 use Rattle.machine.specs.declared.Sizes.{Sizes}
-use Rattle.machine.specs.Meaning.Tables.{pairs, number, at, In}
+use Rattle.machine.specs.Meaning.Tables.{pairs, number, at, In, Ok}
 use Rattle.machine.specs.Working.Pairs.{pairAt}
 use Rattle.machine.proofs.Numbers.{same-pair, number-in, number-pair, pair-number, pairAt-in}
 use Rattle.numbers.proofs.Order.{tri}
@@ -95,13 +95,24 @@ module _ {z : Sizes} {k : ℕ} {next0 next1 list : List ℕ} {n : ℕ} {d₀ : L
   pub into-start : Met z k (Into z next0 next1 0 (Listed list n)) d₀ d₀ rows₀ rows₀ 0
   into-start = met-none (λ p h s. absurd (omega (arith, s .under)))
 
-  pub into-more : {v r s : ℕ} {first0 link0 first1 link1 : List ℕ} {d d′ : List ℕ} {rows rows′ : List Bool} → Numbers z list n → Inverts next0 (z .old) (z .vectors) v first0 link0 → Inverts next1 (z .new) (z .vectors) v first1 link1 → Nexts z next0 next1 → v < z .vectors → Met z k (Into z next0 next1 v (Listed list n)) d₀ d rows₀ rows r → Met z k (Before z list n first0 link0 first1 link1) d d′ rows rows′ s → Met z k (Into z next0 next1 (v + 1) (Listed list n)) d₀ d′ rows₀ rows′ (r + s)
+  pub into-more : {v r s : ℕ} {first0 link0 first1 link1 : List ℕ} {d d′ : List ℕ} {rows rows′ : List Bool} → Numbers z list n → Inverts next0 (z .old) (z .vectors) v first0 link0 → Inverts next1 (z .new) (z .vectors) v first1 link1 → Nexts z next0 next1 → Ok z v → Met z k (Into z next0 next1 v (Listed list n)) d₀ d rows₀ rows r → Met z k (Before z list n first0 link0 first1 link1) d d′ rows rows′ s → Met z k (Into z next0 next1 (v + 1) (Listed list n)) d₀ d′ rows₀ rows′ (r + s)
   into-more {v} b w0 w1 w l a y = met-then a y
-      (λ p h s. record { vector = s .vector; under = omega (arith, s .under); leads = s .leads })
-      (λ p h s. record { vector = v; under = omega arith; leads = chains-to b w0 w1 p s })
-      (λ p h s. ⊎-elim (λ t. inl (record { vector = s .vector; under = t; leads = s .leads }))
-      (λ t. ⊎-elim (λ e. inr (chains-of b w0 w1 p h (closed z w p v h (record { below = l })) (subst (λ (u : ℕ). Listed list n (number z (move z next0 next1 p u))) e (s .leads)))) (λ t. absurd (omega (arith, s .under))) t)
+      (λ p h s. record { vector = s .vector; under = omega (arith, s .under); ok = s .ok; leads = s .leads })
+      (λ p h s. record { vector = v; under = omega arith; ok = l; leads = chains-to b w0 w1 p s })
+      (λ p h s. ⊎-elim (λ t. inl (record { vector = s .vector; under = t; ok = s .ok; leads = s .leads }))
+      (λ t. ⊎-elim (λ e. inr (chains-of b w0 w1 p h (closed z w p v h l) (subst (λ (u : ℕ). Listed list n (number z (move z next0 next1 p u))) e (s .leads)))) (λ t. absurd (omega (arith, s .under))) t)
       (tri (s .vector) v))
+
+  -- a vector that is not allowed leads nowhere
+  pub into-past : {v r : ℕ} {d : List ℕ} {rows : List Bool} → (Ok z v → ⊥) → Met z k (Into z next0 next1 v (Listed list n)) d₀ d rows₀ rows r → Met z k (Into z next0 next1 (v + 1) (Listed list n)) d₀ d rows₀ rows r
+  into-past {v} not a = met-same a
+      (λ p h s. record { vector = s .vector; under = omega (arith, s .under); ok = s .ok; leads = s .leads })
+      (λ p h s. record { vector = s .vector; under = under s (tri (s .vector) v); ok = s .ok; leads = s .leads })
+    where
+      under : {p : Pair} (s : Into z next0 next1 (v + 1) (Listed list n) p) → (s .vector < v) ⊎ ((s .vector ≡ v) ⊎ (v < s .vector)) → s .vector < v
+      under s (inl h) = h
+      under s (inr (inl e)) = absurd (not (subst (Ok z) e (s .ok)))
+      under s (inr (inr h)) = absurd (omega (arith, s .under))
 
 -- the batches of a round: the pairs that are led to the pairs below i for which the map held k
 pub record Sweeping (z : Sizes) (next0 next1 : List ℕ) (k : ℕ) (d₀ : List ℕ) (i : ℕ) (d : List ℕ) (rows : List Bool) (r : ℕ) : Type 0 where
@@ -124,10 +135,10 @@ module _ {z : Sizes} {next0 next1 : List ℕ} {k : ℕ} {d₀ : List ℕ} where
     sweeping-more {list} {n} {next} w pos g b = record {
       under = g .most;
       met = met-then (a .met) b
-          (λ p h s. record { vector = s .vector; under = s .under; leads = (omega (arith, s .leads .0, g .more), s .leads .1) })
-          (λ p h s. record { vector = s .vector; under = s .under; leads = listed _ (s .leads) })
-          (λ p h s. ⊎-elim (λ t. inl (record { vector = s .vector; under = s .under; leads = (t, s .leads .1) }))
-          (λ t. inr (record { vector = s .vector; under = s .under; leads = g .all _ (from t) (s .leads .0) (met-forth (a .met) pos _ (omega (arith, s .leads .0, g .most)) (s .leads .1)) }))
+          (λ p h s. record { vector = s .vector; under = s .under; ok = s .ok; leads = (omega (arith, s .leads .0, g .more), s .leads .1) })
+          (λ p h s. record { vector = s .vector; under = s .under; ok = s .ok; leads = listed _ (s .leads) })
+          (λ p h s. ⊎-elim (λ t. inl (record { vector = s .vector; under = s .under; ok = s .ok; leads = (t, s .leads .1) }))
+          (λ t. inr (record { vector = s .vector; under = s .under; ok = s .ok; leads = g .all _ (from t) (s .leads .0) (met-forth (a .met) pos _ (omega (arith, s .leads .0, g .most)) (s .leads .1)) }))
           (tri (number z (move z next0 next1 p (s .vector))) i));
     }
       where
@@ -143,8 +154,8 @@ module _ {z : Sizes} {next0 next1 : List ℕ} {k : ℕ} {d₀ : List ℕ} where
       record {
         rounds = record {
           keeps = λ p l o. ⊎-elim (λ s. s) (λ f. absurd (omega (arith, f .0))) (a .met .each p l);
-          fresh = λ p l e o. ⊎-elim (λ s. absurd (omega arith)) (λ f. (f .1 ∙ add-one k, (f .2 .vector, record { below = f .2 .under }, f .2 .leads .1))) (a .met .each p l);
-          stays = λ p l e o v u g. a .met .none p l (record { vector = v; under = u .below; leads = (omega (arith, number-in z _ (closed z w p v l u)), g) }) o;
+          fresh = λ p l e o. ⊎-elim (λ s. absurd (omega arith)) (λ f. (f .1 ∙ add-one k, (f .2 .vector, f .2 .ok, f .2 .leads .1))) (a .met .each p l);
+          stays = λ p l e o v u g. a .met .none p l (record { vector = v; under = u .below; ok = u; leads = (omega (arith, number-in z _ (closed z w p v l u)), g) }) o;
         };
         long = a .met .long;
         counts = a .met .counts;

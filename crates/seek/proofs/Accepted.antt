@@ -1,4 +1,4 @@
--- What a call to which none of 11, 12 and 13 applies may rely on.
+-- What a call to which none of 11, 12, 13 and 20 applies may rely on.
 use Prim.Native.Nat.{ℕ, _<_, _≤_, _*_}
 use mathlib.Core.List.{List}
 use native.Mathlib.Omega.{arith}
@@ -7,11 +7,14 @@ use lib.ListN.{getD}
 use Rattle.numbers.proofs.Order.{le-of-not-lt}
 use Rattle.memory.specs.Meaning.Refusals.{Free}
 use Rattle.machine.specs.Meaning.Tables.{Tables, pairs}
-use Rattle.machine.specs.Meaning.Faults.{OutOfRange, TooShort, LeadsOut, leads, TablesFault}
+use Rattle.machine.specs.Meaning.Faults.{OutOfRange, TooShort, LeadsOut, leads, TablesFault, VectorsFault}
 use Rattle.places.specs.Working.{Few}
 use Rattle.seek.specs.Working.Steps.{Good}
 
-module _ {t : Tables} {room : ℕ} (none : Free (TablesFault t room)) where
+module _ {t : Tables} {room : ℕ} (free : Free (VectorsFault t room)) where
+  none : Free (TablesFault t room)
+  none n f = free n (VectorsFault.tables f)
+
   few : Few (t .sizes)
   few = record {
     few-old = le-of-not-lt (λ h. none 11 (TablesFault.range (OutOfRange.old-many h)));

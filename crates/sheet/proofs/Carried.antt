@@ -7,6 +7,7 @@ use Rattle.evaluator.proofs.Bounds.{next-state-lt}
 use Rattle.format.specs.Meaning.Format.{decoded}
 use Rattle.machine.specs.declared.Pair.{Pair}
 use Rattle.machine.specs.declared.Sizes.{Sizes}
+use Rattle.machine.specs.Meaning.Allowed.{everyVector}
 use Rattle.machine.specs.Meaning.Machine.{Machine, Alike, Alignable, IsTrace, IsList}
 use Rattle.machine.specs.Meaning.Tables.{In, Ok}
 use Rattle.machine.specs.Meaning.Verdict.{IsSame, IsApart}
@@ -19,11 +20,11 @@ use Rattle.sheet.proofs.Models.{two}
 abbrev pub model : (ℕ → ℕ → ℕ) → (ℕ → ℕ → ℕ) → Machine
 model next out = record { next = next; out = out }
 
-drawn-machine : {b : List ℕ} {next out : ℕ → ℕ → ℕ} → Drawn b next out → SameMachine (Ok two) 2 (model next out) (machineOf (decoded b))
-drawn-machine {b} d = record {
-  next = λ s v h o. d .steps s v h (o .below) .next;
-  out = λ s v h o. d .steps s v h (o .below) .out;
-  stays = λ s v h o. subst (λ (n : ℕ). n < 2) (sym (d .steps s v h (o .below) .next)) (below s v);
+pub drawn-machine : {Fed : ℕ → Type 0} {b : List ℕ} {next out : ℕ → ℕ → ℕ} → ((v : ℕ) → Fed v → v < 2) → Drawn b next out → SameMachine Fed 2 (model next out) (machineOf (decoded b))
+drawn-machine {b = b} few d = record {
+  next = λ s v h o. d .steps s v h (few v o) .next;
+  out = λ s v h o. d .steps s v h (few v o) .out;
+  stays = λ s v h o. subst (λ (n : ℕ). n < 2) (sym (d .steps s v h (few v o) .next)) (below s v);
 }
   where
     below : (s v : ℕ) → nextState (decoded b) s v < 2
@@ -37,10 +38,10 @@ module _ {a b : List ℕ} {next0 out0 next1 out1 : ℕ → ℕ → ℕ} (x : Dra
   m1 = model next1 out1
 
   agree : SameSteps two m0 m1 (old a b) (new a b)
-  agree = record { old = drawn-machine x; new = drawn-machine y }
+  agree = record { old = drawn-machine (λ v o. o .below) x; new = drawn-machine (λ v o. o .below) y }
 
   pub two-each : two ≡ sizes a b
-  two-each = λ j. record { old = 2 ^ sym (x .latches) j; new = 2 ^ sym (y .latches) j; vectors = 2 ^ sym (x .inputs) j }
+  two-each = λ j. record { old = 2 ^ sym (x .latches) j; new = 2 ^ sym (y .latches) j; vectors = 2 ^ sym (x .inputs) j; allowed = everyVector (2 ^ sym (x .inputs) j) }
 
   pub alike : (p : Pair) → In two p → Alike m0 m1 (Ok two) p → Alike (old a b) (new a b) (Ok (sizes a b)) p
   alike p i h = subst (λ (z : Sizes). Alike (old a b) (new a b) (Ok z) p) two-each (alike-there agree p i h)
@@ -60,8 +61,8 @@ module _ {a b : List ℕ} {next0 out0 next1 out1 : ℕ → ℕ → ℕ} (x : Dra
   pub list : (p : Pair) (l : List ℕ) → In two p → IsList m0 m1 (Ok two) p l → IsList (old a b) (new a b) (Ok (sizes a b)) p l
   list p l i h = subst (λ (z : Sizes). IsList (old a b) (new a b) (Ok z) p l) two-each (list-there agree p l i h)
 
-  pub same : (l : List ℕ) → IsSame m0 m1 two l → IsSame (old a b) (new a b) (sizes a b) l
-  same l h = subst (λ (z : Sizes). IsSame (old a b) (new a b) z l) two-each (same-there agree l h)
+  pub same : (l : List ℕ) → IsSame m0 m1 (Ok two) two l → IsSame (old a b) (new a b) (Ok (sizes a b)) (sizes a b) l
+  same l h = subst (λ (z : Sizes). IsSame (old a b) (new a b) (Ok z) z l) two-each (same-there agree l h)
 
-  pub apart : (p : Pair) (l : List ℕ) → IsApart m0 m1 two p l → IsApart (old a b) (new a b) (sizes a b) p l
-  apart p l h = subst (λ (z : Sizes). IsApart (old a b) (new a b) z p l) two-each (is-apart-there agree p l h)
+  pub apart : (p : Pair) (l : List ℕ) → IsApart m0 m1 (Ok two) two p l → IsApart (old a b) (new a b) (Ok (sizes a b)) (sizes a b) p l
+  apart p l h = subst (λ (z : Sizes). IsApart (old a b) (new a b) (Ok z) z p l) two-each (is-apart-there agree p l h)

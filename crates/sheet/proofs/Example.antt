@@ -12,6 +12,7 @@ use Rattle.memory.specs.Meaning.Refusals.{Free}
 use Rattle.memory.specs.Meaning.Slices.{ZeroFrom}
 use Rattle.memory.proofs.Computed.{passes}
 use Rattle.netlist.specs.declared.Design.{Design}
+use Rattle.netlist.specs.Meaning.Nets.{vectorsOf}
 use Rattle.netlist.specs.Meaning.Faults.{Accepted}
 use Rattle.reader.specs.Meaning.Fields.{bitAt, fieldAt}
 use Rattle.format.specs.Meaning.Format.{decoded}
@@ -19,16 +20,19 @@ use Rattle.format.specs.Meaning.Faults.{ImageFault, HeaderFault}
 use Rattle.image.proofs.Accepted.{image-accepted}
 use Rattle.machine.specs.declared.Pair.{Pair}
 use Rattle.machine.specs.declared.Sizes.{Sizes}
+use Rattle.machine.specs.Meaning.Allowed.{everyVector}
 use Rattle.machine.specs.Meaning.Machine.{Alike, Alignable}
 use Rattle.machine.specs.Meaning.Tables.{pairs, In, Ok, Flag, holds, fails}
 use Rattle.machine.specs.Meaning.Counts.{Counts}
 use Rattle.machine.specs.Meaning.Verdict as W
+use Rattle.machine.proofs.Allowed.{ones-right}
 use Rattle.machine.proofs.Verdict.{written-unique}
 use Rattle.verdict.specs.Meaning.Decision.{Decided}
 use Rattle.verdict.specs.Meaning.Decision as D
 use Rattle.compare.specs.Meaning.Designs.{machineOf, sizesOf}
 use Rattle.compare.specs.Meaning.Comparing.{CompareFault}
 use Rattle.compare.specs.Meaning.Demand.{Enough}
+use Rattle.compare.proofs.Agreement.{vectors-some}
 use Rattle.compare.proofs.Demand.{no-fault}
 use Rattle.report.proofs.Examples.{facts, same-example}
 use Rattle.align_report.specs.Meaning.Report.{oldBytes, newBytes, FactsOf, AnswersDesigns, Answers, ownTables, ownSlices}
@@ -48,6 +52,9 @@ a = decoded imageP
 abbrev b : Design
 b = decoded imageQ
 
+abbrev every : ℕ
+every = everyVector (vectorsOf a)
+
 abbrev zeros : ℕ → List ℕ
 zeros n = replicate n 0
 
@@ -64,23 +71,23 @@ flag (suc zero) (suc zero) h k = fails refl (λ w. omega (arith, w .agree [] tt 
 flag (suc zero) (suc (suc n)) h k = absurd (omega arith)
 flag (suc (suc n)) s1 h k = absurd (omega arith)
 
-alike-2 : Counts (Alike (machineOf a) (machineOf b) (Ok (sizesOf a b))) (sizesOf a b) 2
+alike-2 : Counts (Alike (machineOf a) (machineOf b) (Ok (sizesOf a b every))) (sizesOf a b every) 2
 unfolding count
 alike-2 =
-    subst (λ (z : Sizes). Counts (Alike (machineOf a) (machineOf b) (Ok (sizesOf a b))) z 2) (two-each p-drawn q-drawn)
+    subst (λ (z : Sizes). Counts (Alike (machineOf a) (machineOf b) (Ok (sizesOf a b every))) z 2) (two-each p-drawn q-drawn)
     (record { marks = 0 ∷ 1 ∷ 1 ∷ 0 ∷ []; each = λ p i. there p i (flag (p .old) (p .new) (i .in-old) (i .in-new)); ones = refl })
   where
-    there : (p : Pair) → In two p → {x : ℕ} → Flag (Alike takes inverts (Ok two) p) x → Flag (Alike (machineOf a) (machineOf b) (Ok (sizesOf a b)) p) x
+    there : (p : Pair) → In two p → {x : ℕ} → Flag (Alike takes inverts (Ok two) p) x → Flag (Alike (machineOf a) (machineOf b) (Ok (sizesOf a b every)) p) x
     there p i (holds e h) = holds e (alike p-drawn q-drawn p i h)
     there p i (fails e n) = fails e (λ w. n (alike-back p-drawn q-drawn p i w))
 
-alignable-4 : Counts (Alignable (machineOf a) (machineOf b) (Ok (sizesOf a b))) (sizesOf a b) 4
+alignable-4 : Counts (Alignable (machineOf a) (machineOf b) (Ok (sizesOf a b every))) (sizesOf a b every) 4
 unfolding count
 alignable-4 =
-    subst (λ (z : Sizes). Counts (Alignable (machineOf a) (machineOf b) (Ok (sizesOf a b))) z 4) (two-each p-drawn q-drawn)
+    subst (λ (z : Sizes). Counts (Alignable (machineOf a) (machineOf b) (Ok (sizesOf a b every))) z 4) (two-each p-drawn q-drawn)
     (record { marks = replicate 4 1; each = λ p i. holds (getD-replicate 4 (p .old * 2 + p .new) 1 0 (omega (arith, i .in-old, i .in-new))) (alignable p-drawn q-drawn p i (M.pq-same .all .all p i)); ones = refl })
 
-pq-facts : FactsOf a b (facts 2 4)
+pq-facts : FactsOf a b every (facts 2 4)
 pq-facts = record {
   inputs = sym (p-drawn .inputs);
   outputs = sym (p-drawn .outputs);
@@ -101,7 +108,7 @@ all-zero n j = go (decLt j n)
     go (yes h) = getD-replicate {A = ℕ} n j 0 0 h
     go (no h) = List·getD-eq-default (zeros n) 0 (omega (arith, length-replicate {A = ℕ} n 0))
 
-decided : Decided (machineOf a) (machineOf b) (sizesOf a b) list (D.same 1)
+decided : Decided (machineOf a) (machineOf b) (Ok (sizesOf a b every)) (sizesOf a b every) list (D.same 1)
 decided = record { sought = pq-same; fits = omega arith; beyond = beyond }
   where
     beyond : ZeroFrom 1 list
@@ -114,13 +121,14 @@ old-accepted = image-accepted imageP (p-drawn .accepted)
 new-accepted : Accepted b
 new-accepted = image-accepted imageQ (q-drawn .accepted)
 
-enough : Enough a b (ownSlices 32768)
-enough = record { scratch = omega (arith, pairs-most old-accepted new-accepted); list = λ l w. omega (arith, ap length (written-unique (machineOf a) (machineOf b) (sizesOf a b) (closed a b) l (0 ∷ []) w (W.same pq-same))) }
+enough : Enough a b every (ownSlices 32768)
+enough = record { scratch = omega (arith, pairs-most every old-accepted new-accepted); list = λ l w. omega (arith, ap length (written-unique (machineOf a) (machineOf b) (sizesOf a b every) (closed a b every) l (0 ∷ []) w (W.same pq-same))) }
 
-compared : Free (CompareFault a b ownTables (ownSlices 32768))
+compared : Free (CompareFault a b every ownTables (ownSlices 32768))
 compared =
-    no-fault a b ownTables (ownSlices 32768) old-accepted new-accepted
+    no-fault a b every ownTables (ownSlices 32768) old-accepted new-accepted
     (record { inputs = p-drawn .inputs ∙ sym (q-drawn .inputs); outputs = p-drawn .outputs ∙ sym (q-drawn .outputs) })
+    (ones-right (vectors-some a) refl)
     (record { old-next = table-most old-accepted; old-out = table-most old-accepted; new-next = table-most new-accepted; new-out = table-most new-accepted })
     enough
 

@@ -7,3 +7,4 @@ pub mod Sheet
 pub mod Readings
 pub mod Example
 pub mod Toggles
+pub mod Panels

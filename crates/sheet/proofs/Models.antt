@@ -7,13 +7,14 @@ use native.Mathlib.Omega.{arith}
 use lib.Dec.{lit<}
 use Rattle.machine.specs.declared.Pair.{Pair}
 use Rattle.machine.specs.declared.Sizes.{Sizes}
+use Rattle.machine.specs.Meaning.Allowed.{everyVector}
 use Rattle.machine.specs.Meaning.Lists.{run}
 use Rattle.machine.specs.Meaning.Machine.{Machine, step, Alike, Alignable, IsTrace, IsList}
 use Rattle.machine.specs.Meaning.Tables.{number, In, Ok}
 use Rattle.machine.specs.Meaning.Verdict.{LowestOpen, IsSame, IsApart, done}
 use Rattle.machine.proofs.Numbers.{same-pair}
 use Rattle.machine.proofs.Pairs.{alike-alignable, none-alignable}
-use Rattle.sheet.proofs.Short.{alike-by-set, trace-of-vector, list-zero, same-by-zero}
+use Rattle.sheet.proofs.Short.{alike-by-set, trace-of-vector, list-lowest, same-by-lowest}
 
 abbrev pub takes : Machine
 takes = record { next = λ s v. v; out = λ s v. s }
@@ -31,10 +32,10 @@ abbrev pub empty : Machine
 empty = record { next = λ s v. 0; out = λ s v. 0 }
 
 abbrev pub two : Sizes
-two = record { old = 2; new = 2; vectors = 2 }
+two = record { old = 2; new = 2; vectors = 2; allowed = everyVector 2 }
 
 abbrev pub one : Sizes
-one = record { old = 1; new = 1; vectors = 1 }
+one = record { old = 1; new = 1; vectors = 1; allowed = everyVector 1 }
 
 abbrev pub pair : ℕ → ℕ → Pair
 pair s0 s1 = record { old = s0; new = s1 }
@@ -43,13 +44,13 @@ pub inside : {s0 s1 : ℕ} → s0 < 2 → s1 < 2 → In two (pair s0 s1)
 inside h k = record { in-old = h; in-new = k }
 
 pub zero-fed : Ok two 0
-zero-fed = record { below = lit< tt }
+zero-fed = record { below = lit< tt; named = record { set = refl } }
 
 one-fed : Ok two 1
-one-fed = record { below = lit< tt }
+one-fed = record { below = lit< tt; named = record { set = refl } }
 
 -- the lowest pair that is not alike at power-up
-lowest-open : (m0 m1 : Machine) (p : Pair) → In two p → (Alike m0 m1 (Ok two) p → ⊥) → ((q : Pair) → In two q → number two q < number two p → Alike m0 m1 (Ok two) q) → LowestOpen m0 m1 two [] p
+lowest-open : (m0 m1 : Machine) (p : Pair) → In two p → (Alike m0 m1 (Ok two) p → ⊥) → ((q : Pair) → In two q → number two q < number two p → Alike m0 m1 (Ok two) q) → LowestOpen m0 m1 (Ok two) two [] p
 lowest-open m0 m1 p i n l = record { may = record { from = p; inside = i; arrives = refl }; open′ = n; lower = λ q y h. l q (subst (In two) (y .arrives) (y .inside)) h }
 
 -- a pair below (0,1) is (0,0)
@@ -70,23 +71,23 @@ pub pq-trace : IsTrace takes inverts (Ok two) (pair 0 0) (0 ∷ [])
 pq-trace = trace-of-vector takes inverts (Ok two) (pair 0 0) 0 (record { ok = zero-fed; differs = λ e. omega (arith, e); below = λ w h. absurd (omega (arith, h)) })
 
 pub pq-list : IsList takes inverts (Ok two) (pair 0 0) (0 ∷ [])
-pq-list = list-zero takes inverts (Ok two) (pair 0 0) zero-fed pq-open pq-alike
+pq-list = list-lowest takes inverts (Ok two) (pair 0 0) 0 zero-fed (λ w o. omega arith) pq-open pq-alike
 
-pub pq-same : IsSame takes inverts two (0 ∷ [])
-pq-same = same-by-zero takes inverts two (pair 0 0) zero-fed (lowest-open takes inverts (pair 0 0) (inside (lit< tt) (lit< tt)) pq-open (λ q i h. absurd (omega (arith, h)))) (λ q i. pq-alike)
+pub pq-same : IsSame takes inverts (Ok two) two (0 ∷ [])
+pq-same = same-by-lowest takes inverts two 0 (pair 0 0) zero-fed (λ w o. omega arith) (lowest-open takes inverts (pair 0 0) (inside (lit< tt) (lit< tt)) pq-open (λ q i h. absurd (omega (arith, h)))) (λ q i. pq-alike)
 
 -- one design beside itself: alike where its states are equal
 pp-set : (p : Pair) → p .old ≡ p .new → Alike takes takes (Ok two) p
 pp-set = alike-by-set takes takes (Ok two) (λ q. q .old ≡ q .new) (λ q v s o. s) (λ q v s o. refl)
 
-pub pp-same : IsSame takes takes two (0 ∷ [])
-pp-same = same-by-zero takes takes two (pair 0 1) zero-fed (lowest-open takes takes (pair 0 1) (inside (lit< tt) (lit< tt)) (λ a. omega (arith, a .agree [] tt 0 zero-fed)) (λ q i h. subst (Alike takes takes (Ok two)) (below-one q h) (pp-set (pair 0 0) refl))) (λ q i. pp-set (pair 0 0) refl)
+pub pp-same : IsSame takes takes (Ok two) two (0 ∷ [])
+pp-same = same-by-lowest takes takes two 0 (pair 0 1) zero-fed (λ w o. omega arith) (lowest-open takes takes (pair 0 1) (inside (lit< tt) (lit< tt)) (λ a. omega (arith, a .agree [] tt 0 zero-fed)) (λ q i h. subst (Alike takes takes (Ok two)) (below-one q h) (pp-set (pair 0 0) refl))) (λ q i. pp-set (pair 0 0) refl)
 
 -- P and M: P shows the same under both vectors, and M does not
 pub pm-none : (p : Pair) → Alike takes unseen (Ok two) p → ⊥
 pm-none p a = omega (arith, a .agree [] tt 0 zero-fed, a .agree [] tt 1 one-fed)
 
-pub pm-apart : IsApart takes unseen two (pair 0 0) (1 ∷ [])
+pub pm-apart : IsApart takes unseen (Ok two) two (pair 0 0) (1 ∷ [])
 pm-apart = record {
   lowest = record { inside = inside (lit< tt) (lit< tt); apart = none-alignable takes unseen (Ok two) pm-none (pair 0 0); lower = λ q i h. absurd (omega (arith, h)) };
   trace = trace-of-vector takes unseen (Ok two) (pair 0 0) 1 (record { ok = one-fed; differs = λ e. omega (arith, e); below = λ w h o. omega (arith, h) });
@@ -109,7 +110,7 @@ hh-0 = hh-set (pair 0 0) refl
 pub hh-1 : Alignable holds holds (Ok two) (pair 1 1)
 hh-1 = hh-set (pair 1 1) refl
 
-pub hh-apart : IsApart holds holds two (pair 0 1) (0 ∷ [])
+pub hh-apart : IsApart holds holds (Ok two) two (pair 0 1) (0 ∷ [])
 hh-apart = record {
   lowest = record { inside = inside (lit< tt) (lit< tt); apart = hh-not (pair 0 1) (λ e. omega (arith, e)); lower = λ q i h. subst (Alignable holds holds (Ok two)) (below-one q h) hh-0 };
   trace = trace-of-vector holds holds (Ok two) (pair 0 1) 0 (record { ok = zero-fed; differs = λ e. omega (arith, e); below = λ w h. absurd (omega (arith, h)) });
@@ -119,5 +120,5 @@ hh-apart = record {
 empty-alike : (p : Pair) → Alike empty empty (Ok one) p
 empty-alike p = record { agree = λ vs e v o. refl }
 
-pub empty-same : IsSame empty empty one []
+pub empty-same : IsSame empty empty (Ok one) one []
 empty-same = record { all = record { all = λ p i. alike-alignable empty empty (Ok one) p (empty-alike p) }; rounds = done refl (λ p y. empty-alike p) }

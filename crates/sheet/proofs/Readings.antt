@@ -26,7 +26,7 @@ unfolding fieldAt horner bitAt
 needed (ImageFault.needless v p) = omega (arith, p 0 (lit< tt) .0)
 
 fed : Ok four 0
-fed = record { below = lit< tt }
+fed = record { below = lit< tt; named = record { set = refl } }
 
 -- outputs that agree now and after one step are those of equal states
 equal-states : (p : Pair) → In four p → A shifts shifts (Ok four) 1 p → p .old ≡ p .new

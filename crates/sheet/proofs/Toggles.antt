@@ -21,10 +21,10 @@ use Rattle.sheet.specs.Meaning.Toggles.{merged, merges, wakes, fours, bo
 use Rattle.sheet.proofs.Short.{alike-by-set}
 
 fed-0 : Ok fours 0
-fed-0 = record { below = lit< tt }
+fed-0 = record { below = lit< tt; named = record { set = refl } }
 
 fed-1 : Ok fours 1
-fed-1 = record { below = lit< tt }
+fed-1 = record { below = lit< tt; named = record { set = refl } }
 
 -- pairs of equal states are alike, and no others
 equal-alike : (p : Pair) → p .old ≡ p .new → Alike merges merges (Ok fours) p
@@ -103,14 +103,14 @@ round-1 = picked-one (λ w. unequal (both 0 1) (λ e. omega (arith, e)) (w .ends
 round-2 : ListAfter merges merges (Ok fours) (Prior.Vector 1) (both 2 3) (1 ∷ [])
 round-2 = picked-one (λ w. unequal (both 2 3) (λ e. omega (arith, e)) (w .ends)) (aligns-one (both 2 3) 1 fed-1 refl) (takes-kept (aligns-one (both 2 3) 1 fed-1 refl))
 
-open-1 : LowestOpen merges merges fours [] (both 0 1)
+open-1 : LowestOpen merges merges (Ok fours) fours [] (both 0 1)
 open-1 = record {
   may = record { from = both 0 1; inside = record { in-old = lit< tt; in-new = lit< tt }; arrives = refl };
   open′ = unequal (both 0 1) (λ e. omega (arith, e));
   lower = λ q y h. equal-alike q (omega (arith, h));
 }
 
-open-2 : LowestOpen merges merges fours (1 ∷ []) (both 2 3)
+open-2 : LowestOpen merges merges (Ok fours) fours (1 ∷ []) (both 2 3)
 open-2 = record {
   may = record { from = both 0 2; inside = record { in-old = lit< tt; in-new = lit< tt }; arrives = refl };
   open′ = unequal (both 2 3) (λ e. omega (arith, e));
@@ -120,7 +120,7 @@ open-2 = record {
 aligned : (p : Pair) → May merges merges fours (1 ∷ 1 ∷ []) p → Alike merges merges (Ok fours) p
 aligned p y = equal-alike p (omega (arith, y .inside .in-old, y .inside .in-new, ap (λ (p : Pair). p .old) (y .arrives), ap (λ (p : Pair). p .new) (y .arrives)))
 
-rounds : IsSame merges merges fours (1 ∷ 1 ∷ [])
+rounds : IsSame merges merges (Ok fours) fours (1 ∷ 1 ∷ [])
 rounds = record {
   all = record { all = λ p i. record { list = 1 ∷ 1 ∷ []; leads = aligns-two p 1 1 fed-1 fed-1 (omega (arith, i .in-old, i .in-new)) } };
   rounds = more (both 0 1) open-1 (1 ∷ []) round-1 (more (both 2 3) open-2 (1 ∷ []) round-2 (done refl aligned));
@@ -146,7 +146,7 @@ toggles = record {
   lower-aligns = aligns-two (both 0 2) 1 0 fed-1 fed-0 refl;
   greedy = greedy;
   unchanged-aligns = aligns-two (both 1 3) 1 1 fed-1 fed-1 refl;
-  higher-aligns = aligns-two (both 1 3) 0 2 fed-0 (record { below = lit< tt }) refl;
+  higher-aligns = aligns-two (both 1 3) 0 2 fed-0 (record { below = lit< tt; named = record { set = refl } }) refl;
   own = own;
   rounds = rounds;
   trace = trace;

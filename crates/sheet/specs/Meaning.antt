@@ -3,3 +3,4 @@ pub mod Sheet
 pub mod Readings
 pub mod Example
 pub mod Toggles
+pub mod Panels

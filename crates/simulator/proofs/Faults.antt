@@ -128,9 +128,6 @@ module _ (a b : Design) (n0 m0 n1 m1 : ℕ) where
   both-among k (BothFault.new f) = table-among b n1 m1 k f
   both-among k (BothFault.interface f) = interface-among a b k f
 
-  pub both-numbered : Numbered (BothFault a b n0 m0 n1 m1)
-  both-numbered = up-to-16 both-among
-
   pub both-lowest : {x y z w r : ℕ} → FirstOrNone (TableFault a n0 m0) x → FirstOrNone (TableFault b n1 m1) y → FirstOrNone (InterfaceFault a b) z
       → w ≡ earlierNumber x y → r ≡ earlierNumber w z → FirstOrNone (BothFault a b n0 m0 n1 m1) r
   both-lowest {x} {y} {z} {w} {r} p q t e f =

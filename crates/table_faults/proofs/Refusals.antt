@@ -1,15 +1,22 @@
--- The lowest of 11, 12 and 13 that applies.
-use Prim.Native.Nat.{ℕ, _≤_}
+-- The lowest of 11, 12 and 13 that applies, and 20 behind them.
+use Prim.Native.Nat.{ℕ, _<_, _≤_}
+use mathlib.Core.Path.{_≡_, refl}
+use mathlib.Core.Logic.{_⊎_, inl, inr}
 use mathlib.Core.List.{List}
 use native.Mathlib.Omega.{arith}
+use native.Mathlib.Decide.{ℕ-discrete}
 use Rattle.numbers.proofs.Order.{not-lt}
-use Rattle.memory.specs.Meaning.Refusals.{FirstOrNone}
-use Rattle.memory.specs.Working.Lowest.{Numbered, UpTo16}
-use Rattle.memory.proofs.Refusals.{lowest-number, no-number}
-use Rattle.memory.proofs.Table.{up-to-16}
+use Rattle.memory.specs.Meaning.Orders.{tableOrder}
+use Rattle.memory.specs.Meaning.Refusals.{Free, FirstOrNone}
+use Rattle.memory.specs.Working.Lowest.{Numbered, UpTo16, placeIn}
+use Rattle.memory.proofs.Places.{place-high, place-20, first-of-place}
+use Rattle.memory.proofs.Refusals.{some-number, lowest-number, no-number, first-then}
+use Rattle.memory.proofs.Table.{listed-stands, up-to-16}
 use Rattle.machine.specs.declared.Sizes.{Sizes}
 use Rattle.machine.specs.Meaning.Tables.{Tables}
-use Rattle.machine.specs.Meaning.Faults.{OutOfRange, TooShort, LeadsOut, leads, TablesFault}
+use Rattle.machine.specs.Meaning.Allowed.{everyVector, WrongAllowed}
+use Rattle.machine.specs.Meaning.Faults.{OutOfRange, TooShort, LeadsOut, leads, TablesFault, VectorsFault}
+use Rattle.machine.proofs.Allowed.{ones-right}
 use Rattle.table_faults.specs.Working.{InRange, LongEnough, Stays}
 
 range-no : {z : Sizes} → InRange z → OutOfRange z → ⊥
@@ -31,13 +38,13 @@ stays-no : {s v : ℕ} {n : List ℕ} → Stays s v n → LeadsOut s v n → ⊥
 stays-no r (leads i h l) = not-lt l (r .stays i h)
 
 module _ {t : Tables} {room : ℕ} where
-  pub fault-some : {m : ℕ} → TablesFault t room m → 11 ≤ m
+  fault-some : {m : ℕ} → TablesFault t room m → 11 ≤ m
   fault-some (TablesFault.range o) = omega arith
   fault-some (TablesFault.short o) = omega arith
   fault-some (TablesFault.old-leads o) = omega arith
   fault-some (TablesFault.new-leads o) = omega arith
 
-  pub fault-most : {m : ℕ} → TablesFault t room m → m ≤ 13
+  fault-most : {m : ℕ} → TablesFault t room m → m ≤ 13
   fault-most (TablesFault.range o) = omega arith
   fault-most (TablesFault.short o) = omega arith
   fault-most (TablesFault.old-leads o) = omega arith
@@ -82,3 +89,46 @@ module _ {t : Tables} {room : ℕ} where
       go (TablesFault.short o) = long-no l o
       go (TablesFault.old-leads o) = stays-no a o
       go (TablesFault.new-leads o) = stays-no b o
+
+  -- where these stand in the order, and 20
+  pub tables-place : {m : ℕ} → TablesFault t room m → placeIn tableOrder m ≤ 13
+  tables-place {m} f = omega (arith, fault-most f, place-high m (omega (arith, fault-some f)) (omega (arith, fault-most f)))
+
+  pub vectors-place : {m : ℕ} → VectorsFault t room m → placeIn tableOrder m ≤ 15
+  vectors-place (VectorsFault.tables f) = omega (arith, tables-place f)
+  vectors-place (VectorsFault.allowed w) = omega (arith, place-20 20 refl)
+
+  pub vectors-some : {m : ℕ} → VectorsFault t room m → 11 ≤ m
+  vectors-some (VectorsFault.tables f) = fault-some f
+  vectors-some (VectorsFault.allowed w) = omega arith
+
+  pub vectors-tables : {n : ℕ} → (n ≡ 0 → ⊥) → FirstOrNone (TablesFault t room) n → FirstOrNone (VectorsFault t room) n
+  vectors-tables {n} e l = some-number (first-then (λ m f. VectorsFault.tables f) (l .some e) (λ m f. go f))
+    where
+      go : {m : ℕ} → VectorsFault t room m → TablesFault t room m ⊎ (placeIn tableOrder n ≤ placeIn tableOrder m)
+      go (VectorsFault.tables f) = inl f
+      go (VectorsFault.allowed w) = inr (omega (arith, tables-place (l .some e .applies), place-20 20 refl))
+
+  module _ (none : Free (TablesFault t room)) where
+    pub vectors-20 : WrongAllowed (t .sizes) → FirstOrNone (VectorsFault t room) 20
+    vectors-20 w = some-number (first-of-place (listed-stands 20 tableOrder tt) (VectorsFault.allowed w) (λ m f. go f))
+      where
+        go : {m : ℕ} → VectorsFault t room m → placeIn tableOrder 20 ≤ placeIn tableOrder m
+        go (VectorsFault.tables f) = absurd (none _ f)
+        go (VectorsFault.allowed v) = omega arith
+
+    pub vectors-none : (WrongAllowed (t .sizes) → ⊥) → FirstOrNone (VectorsFault t room) 0
+    vectors-none right = no-number (λ m f. go f)
+      where
+        go : {m : ℕ} → VectorsFault t room m → ⊥
+        go (VectorsFault.tables f) = none _ f
+        go (VectorsFault.allowed w) = right w
+
+  -- with all V allowed nothing is refused by 20 alone: where V is 0, 11 comes before it
+  pub before-20 : t .sizes .allowed ≡ everyVector (t .sizes .vectors) → (m : ℕ) → VectorsFault t room m → TablesFault t room m ⊎ ((k : ℕ) × TablesFault t room k × (placeIn tableOrder k < placeIn tableOrder m))
+  before-20 all m (VectorsFault.tables f) = inl f
+  before-20 all m (VectorsFault.allowed w) = go (ℕ-discrete (t .sizes .vectors) 0)
+    where
+      go : Dec (t .sizes .vectors ≡ 0) → TablesFault t room 20 ⊎ ((k : ℕ) × TablesFault t room k × (placeIn tableOrder k < placeIn tableOrder 20))
+      go (yes e) = inr (11, TablesFault.range (OutOfRange.vectors-none e), omega (arith, place-high 11 (omega arith) (omega arith), place-20 20 refl))
+      go (no e) = absurd (ones-right (omega arith) all w)

@@ -1,12 +1,51 @@
-// What turns a call away that takes the tables of two designs: sizes out of range, a slice too short, a next state that is no state.
+// What turns a call away that takes the tables of two designs: sizes out of range, a slice too short, a next state that is no state, a
+// number that allows no vector or one that there is not.
 ghost use Prim.Native.Nat.{_*_, _≤_};
 ghost use lib.ListN.{length};
 ghost use Rattle.memory.specs.Meaning.Refusals.{FirstOrNone};
-ghost use Rattle.memory.specs.Working.Tests.{Splits};
+ghost use Rattle.memory.specs.Working.Tests.{Splits, Tells};
 ghost use Rattle.machine.specs.Meaning.Tables.{bothTables};
-ghost use Rattle.machine.specs.Meaning.Faults.{OutOfRange, TooShort, LeadsOut, TablesFault};
+ghost use Rattle.machine.specs.Meaning.Allowed.{WrongAllowed};
+ghost use Rattle.machine.specs.Meaning.Faults.{OutOfRange, TooShort, LeadsOut, TablesFault, VectorsFault};
 ghost use Rattle.table_faults.specs.Working.{InRange, LongEnough, Stays};
 use machine::Sizes;
+
+// The first number that applies to the tables, the lent slices of one entry a pair and the allowed vectors, or 0.
+pub fn vectors_fault(
+    old_next: &[u8],
+    old_out: &[u8],
+    new_next: &[u8],
+    new_out: &[u8],
+    sizes: Sizes,
+    room: usize,
+) -> u8
+    ensures { λ r. ⌜ FirstOrNone (VectorsFault (bothTables sizes (now («old_next» .entry)) (now («old_out» .entry)) (now («new_next» .entry)) (now («new_out» .entry))) room) r ⌝ }
+{
+    let n = call_fault(old_next, old_out, new_next, new_out, sizes, room);
+    if n != 0 {
+        return n;
+    }
+    if wrong_allowed(sizes) {
+        return 20;
+    }
+    0
+}
+
+// 20: the number allows none of the V vectors, or one beyond them.
+pub fn wrong_allowed(sizes: Sizes) -> bool
+    ensures { λ r. ⌜ Tells r (WrongAllowed sizes) ⌝ }
+{
+    if sizes.allowed == 0 {
+        return true;
+    }
+    if sizes.vectors >= 64 {
+        return false;
+    }
+    if sizes.allowed >> sizes.vectors != 0 {
+        return true;
+    }
+    false
+}
 
 // The lowest number that applies to the tables and the lent slices of one entry a pair, or 0.
 pub fn call_fault(

@@ -18,15 +18,16 @@
 //   write x111100008060 7/6                 what the slices hold at entry, and the length of each, in the order of the call
 //   tabulate x111100008060 7/4,4
 //   tabulate_both x111100008060 x111100008040 7/4,4,4,4
-//   compare x111100008060 x111100008040 7/4,4,4,4/4,4,1
+//   compare x111100008060 x111100008040 7/4,4,4,4/4,4,1/0,0,0,3
 //   map_alike 7/4,4,4,4/4,4,4/2,2,2 0,1,0,1/0,0,1,1/0,1,0,1/0,1,0,1
-//   trace_of 7/4,4,4,4/4,4,1/2,2,2/0,1 0,1,0,1/0,0,1,1/0,1,0,1/0,1,0,1
+//   trace_of 7/4,4,4,4/4,4,1/2,2,2/0,1/0,0,0,3 0,1,0,1/0,0,1,1/0,1,0,1/0,1,0,1
 //   earlier_number 19,10                    two numbers of refusals
 //
 // map_alignable and judge are asked as map_alike is, list_of as trace_of: behind the lengths stand S of the old design, S of the new, V,
-// and the pair; the bytes are the four tables. length_of and read take no list of numbers: their image stands behind an x. An answer shows
-// each written slice behind a bar, as a list, 00*0 for an empty one; of one with more than 64 runs of one value the first 64 runs, and a
-// sum in which an entry counts by where it stands.
+// and the pair; the bytes are the four tables. Last comes the number that names the allowed vectors, in four parts of 16 bits, the most
+// significant first; where they are left out, all V vectors are allowed. length_of and read take no list of numbers: their image stands
+// behind an x. An answer shows each written slice behind a bar, as a list, 00*0 for an empty one; of one with more than 64 runs of one
+// value the first 64 runs, and a sum in which an entry counts by where it stands.
 mod calls;
 mod designs;
 mod show;
@@ -38,6 +39,7 @@ ghost use lib.ListN.{length};
 use machine::Pair;
 use machine::Sizes;
 use netlist::Design;
+use std::num::wrapping_sub_usize;
 
 // The most bytes of all lines, entries of a slice that is written, bytes of a list that is read, and numbers of a question.
 const LINES: usize = 262144;
@@ -46,7 +48,7 @@ const SLICE: usize = 65536;
 
 const BYTES: usize = 40000;
 
-const NUMBERS: usize = 13;
+const NUMBERS: usize = 17;
 
 fn main() {
     let mut all = [0u8; LINES];
@@ -111,7 +113,14 @@ fn ask_call(line: &[u8]) {
     }
     let old = old.design;
     let new = new.design;
-    answer(call, old, new, numbers, slices::cut(&bytes, 0, b.len));
+    answer(
+        call,
+        old,
+        new,
+        numbers,
+        f.len,
+        slices::cut(&bytes, 0, b.len),
+    );
 }
 
 // Whether a call takes so many numbers and so many bytes.
@@ -124,10 +133,10 @@ fn takes(call: usize, numbers: usize, bytes: usize) -> bool {
     }
 }
 
-// Puts a question.
-fn answer(call: usize, old: Design, new: Design, n: [u16; NUMBERS], bytes: &[u8]) {
+// Puts a question of which so many numbers are given.
+fn answer(call: usize, old: Design, new: Design, n: [u16; NUMBERS], given: usize, bytes: &[u8]) {
     match call {
-        calls::COMPARE => ask_compare(old, new, n),
+        calls::COMPARE => ask_compare(old, new, n, given),
         calls::TABULATE_BOTH => ask_tabulate_both(old, new, n),
         calls::TABULATE => ask_tabulate(old, n),
         calls::WRITE => ask_write(old, n),
@@ -136,7 +145,7 @@ fn answer(call: usize, old: Design, new: Design, n: [u16; NUMBERS], bytes: &[u8]
         calls::LEVELIZE => ask_levelize(old),
         calls::LENGTH_OF => show::measured(image::length_of(bytes)),
         calls::READ => show::reading(image::read(bytes)),
-        calls::MAP_ALIKE..=calls::JUDGE => ask_tables(call, n, bytes),
+        calls::MAP_ALIKE..=calls::JUDGE => ask_tables(call, n, given, bytes),
         calls::EARLIER_NUMBER => ask_earlier_number(n),
         _ => show::word(b"NO QUESTION: no such call"),
     }
@@ -171,8 +180,9 @@ fn wide(n: u16) -> usize
     n as usize
 }
 
-fn ask_compare(old: Design, new: Design, n: [u16; NUMBERS]) {
+fn ask_compare(old: Design, new: Design, n: [u16; NUMBERS], given: usize) {
     let lengths = lengths_of(n);
+    let allowed = allowed_of(n, 8, given, vectors_of(old.inputs));
     let held = designs::low(n[0]);
     let mut next0 = [held; SLICE];
     let mut out0 = [held; SLICE];
@@ -188,7 +198,18 @@ fn ask_compare(old: Design, new: Design, n: [u16; NUMBERS]) {
     let depth = slices::numbers(&mut depth, lengths.e);
     let reach = slices::numbers(&mut reach, lengths.f);
     let list = slices::bytes(&mut list, lengths.g);
-    let judged = compare::compare(old, new, next0, out0, next1, out1, depth, reach, list);
+    let judged = compare::compare(
+        old,
+        new,
+        allowed,
+        next0,
+        out0,
+        next1,
+        out1,
+        depth,
+        reach,
+        list,
+    );
     show::judged(judged);
     show::table(next0, out0);
     show::table(next1, out1);
@@ -253,7 +274,7 @@ fn ask_earlier_number(n: [u16; NUMBERS]) {
 }
 
 // Cuts the four tables out of a list, and takes the sizes and the pair.
-fn ask_tables(call: usize, n: [u16; NUMBERS], bytes: &[u8]) {
+fn ask_tables(call: usize, n: [u16; NUMBERS], given: usize, bytes: &[u8]) {
     let a = wide(n[1]);
     let b = a + wide(n[2]);
     let c = b + wide(n[3]);
@@ -265,6 +286,7 @@ fn ask_tables(call: usize, n: [u16; NUMBERS], bytes: &[u8]) {
     lend(
         call,
         n,
+        sizes_of(n, given),
         slices::cut(bytes, 0, a),
         slices::cut(bytes, a, b),
         slices::cut(bytes, b, c),
@@ -273,9 +295,16 @@ fn ask_tables(call: usize, n: [u16; NUMBERS], bytes: &[u8]) {
 }
 
 // Lends scratch and a mark or list slice beside tables.
-fn lend(call: usize, n: [u16; NUMBERS], next0: &[u8], out0: &[u8], next1: &[u8], out1: &[u8]) {
+fn lend(
+    call: usize,
+    n: [u16; NUMBERS],
+    sizes: Sizes,
+    next0: &[u8],
+    out0: &[u8],
+    next1: &[u8],
+    out1: &[u8],
+) {
     let lengths = lengths_of(n);
-    let sizes = sizes_of(n);
     let pair = pair_of(n);
     let held = designs::low(n[0]);
     let mut depth = [n[0]; SLICE];
@@ -300,12 +329,40 @@ fn lend(call: usize, n: [u16; NUMBERS], next0: &[u8], out0: &[u8], next1: &[u8],
     show::bytes(list, false);
 }
 
-fn sizes_of(n: [u16; NUMBERS]) -> Sizes {
+fn sizes_of(n: [u16; NUMBERS], given: usize) -> Sizes {
+    let vectors = wide(n[10]);
     Sizes {
         old: wide(n[8]),
         new: wide(n[9]),
-        vectors: wide(n[10]),
+        vectors,
+        allowed: allowed_of(n, 13, given, vectors),
     }
+}
+
+// The number that names the allowed vectors, whose four parts stand from a place on; where none is given, one that allows all.
+fn allowed_of(n: [u16; NUMBERS], at: usize, given: usize, vectors: usize) -> u64
+    requires { ⌜ at ≤ 13 ⌝ }
+{
+    if given <= at {
+        return every(vectors);
+    }
+    (n[at] as u64) << 48 | (n[at + 1] as u64) << 32 | (n[at + 2] as u64) << 16 | n[at + 3] as u64
+}
+
+// How many vectors a design has; of one with too many inputs, which is refused, as many as any.
+fn vectors_of(inputs: u8) -> usize {
+    if inputs > 6 {
+        return 64;
+    }
+    1usize << inputs
+}
+
+// The number that allows every one of so many vectors.
+fn every(vectors: usize) -> u64 {
+    if vectors >= 64 {
+        return 18446744073709551615;
+    }
+    wrapping_sub_usize(1usize << vectors, 1) as u64
 }
 
 fn pair_of(n: [u16; NUMBERS]) -> Pair {

@@ -69,7 +69,7 @@ module _ (t : Tables) where
     pub ok : Each (Ok z) (take len list)
     pub after0 : After (m0 .next) (z .old) (take len list) marks0
     pub after1 : After (m1 .next) (z .new) (take len list) marks1
-    pub joins : (r : List ℕ) → Rounds m0 m1 z r (take len list) → Rounds m0 m1 z r []
+    pub joins : (r : List ℕ) → Rounds m0 m1 (Ok z) z r (take len list) → Rounds m0 m1 (Ok z) z r []
     pub rest : (i : ℕ) → len ≤ i → getD list i 0 ≡ getD list₀ i 0
 
   module _ {reach : List ℕ} (m : Reached t reach) where
@@ -100,7 +100,7 @@ module _ (t : Tables) where
     tells : Test (In z) (AlikeIn t) (λ p. eqb (at z reach p) 1)
     tells = record { sound = λ p i x. alike-one p i (eqb→eq (at z reach p) 1 x); full = λ p i a. rw (one-alike p i a) (eqb-refl 1) }
 
-    all : AllAlign m0 m1 z
+    all : AllAlign m0 m1 (Ok z) z
     all = record { all = λ p i. let s = m .some p i in reached t (m .good) (m .alike) p i (λ e. omega arith) }
 
     module _ {list₀ list : List ℕ} {len : ℕ} {marks0 marks1 : List Bool} (w : Aligning list₀ list len marks0 marks1) where
@@ -145,7 +145,7 @@ module _ (t : Tables) where
             numbered : number z p ≡ i
             numbered = ap (number z) q ∙ number-pair z i
 
-            lowest : LowestOpen m0 m1 z (take len list) p
+            lowest : LowestOpen m0 m1 (Ok z) z (take len list) p
             lowest =
                 let f = s .found found-under in
                 record {

@@ -14,7 +14,7 @@ use Rattle.machine.specs.declared.Found.{Found}
 use Rattle.machine.specs.declared.Pair.{Pair}
 use Rattle.machine.specs.declared.Sizes.{Sizes}
 use Rattle.machine.specs.Meaning.Machine.{Machine}
-use Rattle.machine.specs.Meaning.Tables.{Tables, pairs, number, at, In, oldMachine, newMachine, AlikeIn, AlignableIn, TraceIn}
+use Rattle.machine.specs.Meaning.Tables.{Tables, pairs, number, at, In, Ok, oldMachine, newMachine, AlikeIn, AlignableIn, TraceIn}
 use Rattle.machine.specs.Meaning.Verdict.{LowestApart, IsApart, VerdictList}
 use Rattle.machine.specs.Meaning.Verdict as W
 use Rattle.machine.specs.Working.Pairs.{pairAt}
@@ -51,8 +51,8 @@ module _ (t : Tables) where
 
     module _ {i : ℕ} (s : LowestBelow (λ q. getD reach q 0 ≡ 0) (pairs z) i) where
       -- the scan stopped at a pair: it is the lowest that is not alignable
-      pub apart-of : {p : Pair} → p ≡ pairAt z i → i < pairs z → LowestApart m0 m1 z p
-      apart-of e h = subst (λ (q : Pair). LowestApart m0 m1 z q) (sym e) (record {
+      pub apart-of : {p : Pair} → p ≡ pairAt z i → i < pairs z → LowestApart m0 m1 (Ok z) z p
+      apart-of e h = subst (λ (q : Pair). LowestApart m0 m1 (Ok z) z q) (sym e) (record {
         inside = pairAt-in z i h;
         apart = λ a. m .both .alike .map .none _ (pairAt-in z i h) (at-pair z reach i ∙ s .found h) (a .list) (a .leads);
         lower = λ q b l. alignable-of-some q b (positive (s .below (number z q) (omega (arith, l, number-pair z i))));
@@ -63,29 +63,29 @@ module _ (t : Tables) where
       all-reached h = record { good = m .good; room = m .reach-room; alike = m .both .alike; some = λ p b. positive (s .below (number z p) (omega (arith, number-in z p b))) }
 
   -- 16 applies where the list is longer than the slice, and nothing where it fits
-  too-long : {n : ℕ} (l : List ℕ) → VerdictList m0 m1 z l → n < length l → First (ShortList m0 m1 z n) 16
+  too-long : {n : ℕ} (l : List ℕ) → VerdictList m0 m1 (Ok z) z l → n < length l → First (ShortList m0 m1 (Ok z) z n) 16
   too-long l w h = first-of-lowest (up-to-16 (λ k s. numbered s)) (record { applies = short l w h; lower = λ k b s. above s b })
     where
-      numbered : {n k : ℕ} → ShortList m0 m1 z n k → (0 < k) × (k ≤ 16)
+      numbered : {n k : ℕ} → ShortList m0 m1 (Ok z) z n k → (0 < k) × (k ≤ 16)
       numbered (short l w h) = (omega arith, omega arith)
 
-      above : {n k : ℕ} → ShortList m0 m1 z n k → k < 16 → ⊥
+      above : {n k : ℕ} → ShortList m0 m1 (Ok z) z n k → k < 16 → ⊥
       above (short l w h) b = omega arith
 
-  fitting : Good t → (list list′ : List ℕ) (n : ℕ) → length list′ ≡ length list → n ≤ length list → VerdictList m0 m1 z (take n list′) → Free (ShortList m0 m1 z (length list))
+  fitting : Good t → (list list′ : List ℕ) (n : ℕ) → length list′ ≡ length list → n ≤ length list → VerdictList m0 m1 (Ok z) z (take n list′) → Free (ShortList m0 m1 (Ok z) z (length list))
   fitting g list list′ n e f w k (short l y h) = omega (arith, ap length (written-unique m0 m1 z (inside t g) l (take n list′) y w), length-take-le n list′ (omega (arith, e)))
 
   -- the answers
   module _ (g : Good t) {list list′ : List ℕ} (o : Zero list) (e : length list′ ≡ length list) where
-    pub settled-apart : {p : Pair} {n : ℕ} → LowestApart m0 m1 z p → Outcome (AlikeIn t p) (TraceIn t p) list list′ (Found.Steps n) → Settled t (length list) list′ (Verdict.Apart p n)
+    pub settled-apart : {p : Pair} {n : ℕ} → LowestApart m0 m1 (Ok z) z p → Outcome (AlikeIn t p) (TraceIn t p) list list′ (Found.Steps n) → Settled t (length list) list′ (Verdict.Apart p n)
     settled-apart {p} w (steps a n f s b) =
-        let v : IsApart m0 m1 z p (take n list′) = record { lowest = w; trace = s } in
+        let v : IsApart m0 m1 (Ok z) z p (take n list′) = record { lowest = w; trace = s } in
         record { keeps = (fitting g list list′ n e f (W.apart p v), record { sought = v; fits = omega (arith, e); beyond = λ i h. b i h ∙ o i (omega arith) }) }
 
     pub settled-same : {n : ℕ} → Outcome ⊥ (SameIn t) list list′ (Found.Steps n) → Settled t (length list) list′ (Verdict.Same n)
     settled-same (steps a n f s b) = record { keeps = (fitting g list list′ n e f (W.same s), record { sought = s; fits = omega (arith, e); beyond = λ i h. b i h ∙ o i (omega arith) }) }
 
-  pub settled-no-trace : {list list′ : List ℕ} {p : Pair} {n : ℕ} → Zero list → LowestApart m0 m1 z p → Outcome (AlikeIn t p) (TraceIn t p) list list′ (Found.Refused n) → Settled t (length list) list′ (Verdict.Refused 16)
+  pub settled-no-trace : {list list′ : List ℕ} {p : Pair} {n : ℕ} → Zero list → LowestApart m0 m1 (Ok z) z p → Outcome (AlikeIn t p) (TraceIn t p) list list′ (Found.Refused n) → Settled t (length list) list′ (Verdict.Refused 16)
   settled-no-trace {p = p} o w (missing a q) = absurd (w .apart (alike-alignable m0 m1 _ p a))
   settled-no-trace {p = p} o w (E.short a l s h q) = record { keeps = (too-long l (W.apart p (record { lowest = w; trace = s })) h, rw q o) }
 

@@ -1,20 +1,21 @@
 -- The promise of `judge`, for a call that is turned away at once and for one that is not.
 use mathlib.Core.Path.{_≡_, _∙_}
-use mathlib.Core.Logic.{_⊎_, inl, inr}
+use mathlib.Core.Logic.{_⊎_, inl, inr, ⊎-elim}
 use mathlib.Core.List.{List}
 use Prim.Native.Nat.{ℕ, _≤_, min}
 use native.Mathlib.Omega.{arith}
 use lib.ListN.{length}
+use Rattle.memory.specs.Meaning.Orders.{tableOrder}
 use Rattle.memory.specs.Meaning.Refusals.{Free, Keeps, FirstOrNone}
 use Rattle.memory.specs.Meaning.Slices.{Zero, Cleared}
-use Rattle.memory.specs.Working.Lowest.{Numbered, UpTo16}
-use Rattle.memory.proofs.Refusals.{first-lower, keeps-second}
-use Rattle.memory.proofs.Table.{up-to-16}
-use Rattle.machine.specs.Meaning.Tables.{Tables, pairs, oldMachine, newMachine}
-use Rattle.machine.specs.Meaning.Faults.{TablesFault}
+use Rattle.memory.specs.Working.Lowest.{placeIn}
+use Rattle.memory.proofs.Places.{place-last}
+use Rattle.memory.proofs.Refusals.{first-then, keeps-second}
+use Rattle.machine.specs.Meaning.Tables.{Tables, pairs, Ok, oldMachine, newMachine}
+use Rattle.machine.specs.Meaning.Faults.{VectorsFault}
 use Rattle.machine.specs.Meaning.Lent.{Lent, leftOf}
 use Rattle.seek.specs.Working.Steps.{Good, Both}
-use Rattle.table_faults.proofs.Refusals.{fault-most, tables-among}
+use Rattle.table_faults.proofs.Refusals.{vectors-place}
 use Rattle.seek.proofs.Accepted.{good, room-enough}
 use Rattle.verdict.specs.declared.Verdict.{Verdict}
 use Rattle.verdict.specs.declared.Judged.{Judged}
@@ -24,7 +25,7 @@ use Rattle.verdict.specs.Working.Deciding.{Mapped, Settled, WithoutCount
 use Rattle.verdict.proofs.Tallies.{map-counts}
 
 -- a call that is not turned away: tables and scratch of a and b entries serve for both maps
-module _ {t : Tables} {a b : ℕ} (none : Free (TablesFault t (min a b))) where
+module _ {t : Tables} {a b : ℕ} (none : Free (VectorsFault t (min a b))) where
   pub enough : {n m : ℕ} → n ≡ a → m ≡ b → Good t × ((pairs (t .sizes) ≤ n) × (pairs (t .sizes) ≤ m))
   enough d r = let h = room-enough none in (good none, (omega arith, omega arith))
 
@@ -33,31 +34,24 @@ module _ {t : Tables} {a b : ℕ} (none : Free (TablesFault t (min a b))) where
 
 module _ (t : Tables) (s : Lent) where
   abbrev Room : ℕ → Type 0
-  Room n = TablesFault t (min (s .depth) (s .reach)) n
+  Room n = VectorsFault t (min (s .depth) (s .reach)) n
 
   abbrev Short : ℕ → Type 0
-  Short n = ShortList (oldMachine t) (newMachine t) (t .sizes) (s .written) n
+  Short n = ShortList (oldMachine t) (newMachine t) (Ok (t .sizes)) (t .sizes) (s .written) n
 
   either : (n : ℕ) → JudgeFault t s n → Room n ⊎ Short n
   either n (call f) = inl f
   either n (list f) = inr f
 
-  pub judge-among : UpTo16 (JudgeFault t s)
-  judge-among n (call f) = tables-among n f
-  judge-among n (list (short l w h)) = (omega arith, omega arith)
-
-  pub judge-numbered : Numbered (JudgeFault t s)
-  judge-numbered = up-to-16 judge-among
-
-  above : {n m : ℕ} → Room n → Short m → n ≤ m
-  above f (short l w h) = omega (arith, fault-most f)
+  above : {n m : ℕ} → Room n → Short m → placeIn tableOrder n ≤ placeIn tableOrder m
+  above f (short l w h) = omega (arith, vectors-place f, place-last 16 (omega arith) (omega arith))
 
   -- what is kept beside the verdict v, with the list slice left as l
   abbrev KeptBy : List ℕ → Verdict → Type 0
-  KeptBy l v = Keeps (JudgeFault t s) (Decided (oldMachine t) (newMachine t) (t .sizes) l) (Zero l) (verdictReply v)
+  KeptBy l v = Keeps (JudgeFault t s) (Decided (oldMachine t) (newMachine t) (Ok (t .sizes)) (t .sizes) l) (Zero l) (verdictReply v)
 
   abbrev Beside : Verdict → Judged → Type 0
-  Beside v r = CountsBeside (oldMachine t) (newMachine t) (t .sizes) (verdictReply v) (r .alike) (r .alignable)
+  Beside v r = CountsBeside (oldMachine t) (newMachine t) (Ok (t .sizes)) (t .sizes) (verdictReply v) (r .alike) (r .alignable)
 
   pub judged-refused : {depth reach written : List ℕ} {n : ℕ} {r : Judged} → (n ≡ 0 → ⊥) → FirstOrNone Room n → Cleared (s .depth) depth → Cleared (s .reach) reach → Cleared (s .written) written → WithoutCounts n r → Judges t s (leftOf depth reach written) r
   judged-refused {written = written} {n} z l a b c w = record {
@@ -67,7 +61,7 @@ module _ (t : Tables) (s : Lent) where
   }
     where
       kept : KeptBy written (Verdict.Refused n)
-      kept = let f = l .some z in (first-lower Room Short (JudgeFault t s) (λ m x. call x) (λ m x. list x) either judge-numbered f (λ m x. above (f .applies) x), c .zero)
+      kept = let f = l .some z in (first-then (λ m x. call x) f (λ m x. ⊎-elim inl (λ y. inr (above (f .applies) y)) (either m x)), c .zero)
 
   -- the counts of the maps, which a refusal leaves out
   beside : {depth reach : List ℕ} (r : Judged) (v : Verdict) → Mapped t depth reach → WithCounts (t .sizes) depth reach v r → (r .verdict ≡ v) × Beside v r
@@ -77,7 +71,7 @@ module _ (t : Tables) (s : Lent) where
 
   module _ (none : Free Room) where
     settled : {written : List ℕ} {w : ℕ} (v : Verdict) → Settled t w written v → w ≡ s .written → KeptBy written v
-    settled {written} v k e = keeps-second Room Short (JudgeFault t s) (λ m x. call x) (λ m x. list x) either (Decided (oldMachine t) (newMachine t) (t .sizes) written) (Zero written) none (verdictReply v) (rw e at (k .keeps))
+    settled {written} v k e = keeps-second Room Short (JudgeFault t s) (λ m x. call x) (λ m x. list x) either (Decided (oldMachine t) (newMachine t) (Ok (t .sizes)) (t .sizes) written) (Zero written) none (verdictReply v) (rw e at (k .keeps))
 
     pub judged : {depth₀ reach₀ depth reach written : List ℕ} {r : Judged} {w : ℕ} (v : Verdict) → Settled t w written v
         → Both t depth₀ reach₀ → WithCounts (t .sizes) depth₀ reach₀ v r → Cleared (length depth₀) depth → Cleared (length reach₀) reach

@@ -4,3 +4,4 @@ pub mod Answers
 pub mod Tallies
 pub mod Judging
 pub mod Laws
+pub mod Before

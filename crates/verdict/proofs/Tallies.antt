@@ -12,7 +12,7 @@ use types.Run.{OneOf}
 use denote.Enum.Declared.{tagOf}
 use Rattle.numbers.specs.Meaning.Count.{bit, count, countOf}
 use Rattle.machine.specs.declared.Sizes.{Sizes}
-use Rattle.machine.specs.Meaning.Tables.{Tables, oldMachine, newMachine}
+use Rattle.machine.specs.Meaning.Tables.{Tables, Ok, oldMachine, newMachine}
 use Rattle.machine.proofs.Counting.{counts-zeros, counts-others}
 use Rattle.seek.proofs.Sets.{alike-of-zero, zero-of-alike}
 use Rattle.verdict.specs.declared.Verdict.{Verdict}
@@ -46,7 +46,7 @@ answered (Verdict.Refused n) (inl h) m = absurd (omega arith)
 answered (Verdict.Refused n) (inr h) m = absurd (omega arith)
 
 -- what the counts of two maps that are right say
-pub map-counts : {t : Tables} {depth reach : List ℕ} {n k : ℕ} → Mapped t depth reach → MapCounts (t .sizes) depth reach n k → CountsPairs (oldMachine t) (newMachine t) (t .sizes) n k
+pub map-counts : {t : Tables} {depth reach : List ℕ} {n k : ℕ} → Mapped t depth reach → MapCounts (t .sizes) depth reach n k → CountsPairs (oldMachine t) (newMachine t) (Ok (t .sizes)) (t .sizes) n k
 map-counts {t} {depth} {reach} m c = record {
   alike = rw (c .alike) (counts-zeros depth (alike-of-zero t (m .good) (m .both .traces)) (zero-of-alike t (m .good) (m .both .traces)));
   alignable = counts-others reach (c .alignable) (alignable-of-some t m) (some-of-alignable t m);

@@ -33,6 +33,9 @@ same-length-12 c = c .before .before .before .before .before .before .before .be
 same-length-13 : tie.Need-same-length-13
 same-length-13 c = c .before .before .before .before .before .before .before .before .before .before .before .before .before .before .before .before .before .before .before .before .depth .given
 
+same-length-14 : tie.Need-same-length-14
+same-length-14 c = c .before .before .before .before .before .before .before .before .before .before .before .before .before .before .before .before .before .before .reach .given
+
 returns-2 : tie.Need-returns-2
 returns-2 c = prints-apart (c .before .before .before .before .before .before .before .before .before .before .before .before .before .before .before .before .before .before .before .before .before .before .before .before .before .before .before .before .before .compare .ensures) (c .before .before .before .before .before .before .before .before .before .before .before .before .verdict2 .given .1) (c .before .before .before .before .before .before .before .before .before .before .sizes-of .ensures) (c .before .before .before .before .before .before .before .before .before .facts-of .ensures) (c .before .before .put-apart .ensures)
 
@@ -71,7 +74,7 @@ write-comparison-spec =
     same-length-11
     same-length-12
     same-length-13
-    (λ c. search needs)
+    same-length-14
     (λ c. search needs)
     (λ c. search needs)
     returns-2

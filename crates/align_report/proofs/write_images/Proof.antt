@@ -2,7 +2,7 @@
 use mathlib.Core.Path.{refl, sym}
 use native.Mathlib.Omega.{arith}
 use lib.Seq.{length-take-le}
-use Rattle.align_report.proofs.Images.{front-fits, old-unmeasured, old-unread, new-unread, both-read}
+use Rattle.align_report.proofs.Images.{front-fits, old-unmeasured, old-unread, new-unread, read-few, both-read}
 use borrow.Author.Needs.{needs}
 use Rattle.align_report.proofs.write_images.Statement.{statement}
 use Rattle.align_report.proofs.write_images.Tie as tie
@@ -28,11 +28,14 @@ put-refusal-requires-3 c κs = omega (arith, c .before .before .before .before .
 returns-3 : tie.Need-returns-3
 returns-3 c = new-unread (rw (c .before .before .before .before .before .before .before .before .before .before .before .before .before .before .measured .given .1) at (c .before .before .before .before .before .before .before .before .before .before .before .before .before .before .before .before .length-of .ensures)) (c .before .before .before .before .before .before .before .before .before .before .before .read .ensures) (c .before .before .before .before .before .before .before .before .before .enum-told2 .given .1) (c .before .before .before .before .before .before .before .read2 .ensures) (c .before .before .before .before .before .enum-told5 .given .1) (c .before .before .before .before .answer2 .ensures) (c .before .before .before .before .before .before .before .before .before .before .before .before .before .before .before .before .before .before .before .before .before .before .before .before .before .before .pre .1) refl (c .before .before .put-refusal3 .ensures)
 
+allowed-by-requires : tie.Need-allowed-by-requires
+allowed-by-requires c κs = read-few (c .before .before .before .before .before .before .before .before .read .ensures) (c .before .before .before .before .before .before .enum-told2 .given .1)
+
 write-comparison-requires : tie.Need-write-comparison-requires
-write-comparison-requires c κs = c .before .before .before .before .before .before .before .before .before .before .before .before .before .before .before .before .before .before .before .before .before .before .before .before .before .before .before .before .before .before .before .pre .0
+write-comparison-requires c κs = c .before .before .before .before .before .before .before .before .before .before .before .before .before .before .before .before .before .before .before .before .before .before .before .before .before .before .before .before .before .before .before .before .pre .0
 
 returns-4 : tie.Need-returns-4
-returns-4 c = both-read (rw (c .before .before .before .before .before .before .before .before .before .before .before .before .before .before .before .before .before .before .before .before .before .before .before .before .before .before .before .before .before .before .before .before .before .before .before .before .measured .given .1) at (c .before .before .before .before .before .before .before .before .before .before .before .before .before .before .before .before .before .before .before .before .before .before .before .before .before .before .before .before .before .before .before .before .before .before .before .before .before .before .length-of .ensures)) (c .before .before .before .before .before .before .before .before .before .before .before .before .before .before .before .before .before .before .before .before .before .before .before .before .before .before .before .before .before .before .before .before .before .read .ensures) (c .before .before .before .before .before .before .before .before .before .before .before .before .before .before .before .before .before .before .before .before .before .before .before .before .before .before .before .before .before .before .before .enum-told2 .given .1) (c .before .before .before .before .before .before .before .before .before .before .before .before .before .before .before .before .before .before .before .before .before .before .before .before .before .before .before .before .before .read2 .ensures) (c .before .before .before .before .before .before .before .before .before .before .before .before .before .before .before .before .before .before .before .before .before .before .before .before .before .before .before .enum-told4 .given .1) (c .before .before .before .before .before .before .before .before .before .before .before .before .before .before .before .before .write-comparison .ensures)
+returns-4 c = both-read (rw (c .before .before .before .before .before .before .before .before .before .before .before .before .before .before .before .before .before .before .before .before .before .before .before .before .before .before .before .before .before .before .before .before .before .before .before .before .before .measured .given .1) at (c .before .before .before .before .before .before .before .before .before .before .before .before .before .before .before .before .before .before .before .before .before .before .before .before .before .before .before .before .before .before .before .before .before .before .before .before .before .before .before .length-of .ensures)) (c .before .before .before .before .before .before .before .before .before .before .before .before .before .before .before .before .before .before .before .before .before .before .before .before .before .before .before .before .before .before .before .before .before .before .read .ensures) (c .before .before .before .before .before .before .before .before .before .before .before .before .before .before .before .before .before .before .before .before .before .before .before .before .before .before .before .before .before .before .before .before .enum-told2 .given .1) (c .before .before .before .before .before .before .before .before .before .before .before .before .before .before .before .before .before .before .before .before .before .before .before .before .before .before .before .before .before .before .read2 .ensures) (c .before .before .before .before .before .before .before .before .before .before .before .before .before .before .before .before .before .before .before .before .before .before .before .before .before .before .before .before .enum-told4 .given .1) (rw (c .before .before .before .before .before .before .before .before .before .before .before .before .before .before .before .before .before .before .before .before .before .before .before .before .before .allowed-by .ensures) at (c .before .before .before .before .before .before .before .before .before .before .before .before .before .before .before .before .write-comparison .ensures))
 
 pub write-images-spec : {M : Type 1} → statement M
 write-images-spec =
@@ -63,6 +66,7 @@ write-images-spec =
     put-refusal-requires-3
     (λ c. search needs)
     returns-3
+    allowed-by-requires
     write-comparison-requires
     (λ c. search needs)
     (λ c. search needs)

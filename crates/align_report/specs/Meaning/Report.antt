@@ -1,18 +1,19 @@
--- What the program `align` prints of its input: which text, and with which numbers.
---   oldBytes, newBytes b       the bytes of the old and of the new image in the input b
+-- What the program `align` prints of its input, and what is printed of two images under any panel: which text, and with which numbers.
+-- The number `allowed` names the allowed vectors.
+--   oldBytes, newBytes b       the bytes of the old and of the new image in b
 --   oldDesign, newDesign b     the designs that they spell
 --   OldRefused b k             the old image is refused by number k
 --   OldAccepted b              it is accepted
---   FactsOf a b f              the numbers f in front of a verdict are those of the designs a and b
---   AnswersDesigns a b n s list′ t   the text t answers the designs a and b, with table slices of lengths n and other slices of lengths s;
---                              list′ is what the list slice holds then
---   Answers b n s list′ t      the text t answers the input b
---   Reports b n s list′ text′ r      the first r bytes of text′ are such a text
+--   FactsOf a b allowed f      the numbers f in front of a verdict are those of the designs a and b
+--   AnswersDesigns a b allowed n s list′ t   the text t answers the designs a and b, with table slices of lengths n and other slices of
+--                              lengths s; list′ is what the list slice holds then
+--   Answers o b n s list′ t    the text t answers the images b under the panel o
+--   Reports o b n s list′ text′ r    the first r bytes of text′ are such a text
 --   ownTables, ownSlices n     lengths of the tables and of scratch that the program holds, with a list slice of n bytes
---   Prints b text′ r           the first r bytes of text′ are what the program prints of the input b
---   Outputs b text′ k r        the same, to stream k
---   mostRead                   how many bytes are read: one more than two images have
---   unreadMessage              what is said of input that cannot be read
+--   Prints o b text′ r         the first r bytes of text′ are what is printed of the images b under the panel o
+--   Outputs b text′ k r        `align` prints them of the input b, to stream k
+--   mostRead                   how many bytes it reads: one more than two images have
+--   unreadMessage              what it says of input that cannot be read
 use Prim.Native.Nat.{ℕ, _+_, _*_}
 use mathlib.Core.Path.{_≡_}
 use mathlib.Core.List.{List}
@@ -21,6 +22,7 @@ use Rattle.io.specs.Counts as io
 use Rattle.memory.specs.Meaning.Refusals.{Free, First}
 use Rattle.memory.specs.Meaning.Slices.{Zero}
 use Rattle.netlist.specs.declared.Design.{Design}
+use Rattle.netlist.specs.Meaning.Nets.{vectorsOf}
 use Rattle.limits.specs.Meaning.Layout.{mostBytes}
 use Rattle.format.specs.Meaning.Format.{bytesIn, decoded}
 use Rattle.format.specs.Meaning.Faults.{ImageFault, HeaderFault}
@@ -36,6 +38,8 @@ use Rattle.pieces.specs.Meaning.Pieces.{bytes}
 use Rattle.report.specs.declared.Facts.{Facts}
 use Rattle.report.specs.declared.Side.the-variants.{Old, New, Both}
 use Rattle.report.specs.Meaning.Text.{refusalText, sameText, apartText}
+use Rattle.panel.specs.declared.Panel.{Panel}
+use Rattle.panel.specs.Meaning.Panel.{allowedBy}
 
 -- "Standard input holds the old image and then the new, back to back": the old one takes the bytes that its header says
 abbrev pub oldBytes : List ℕ → List ℕ
@@ -60,32 +64,32 @@ pub record OldAccepted (b : List ℕ) : Type 0 where
   pub image : Free (ImageFault (oldBytes b))
 
 -- "The lines hold I and O, L of old and new; alike pairs and all pairs; alignable pairs and all pairs"
-pub record FactsOf (a b : Design) (f : Facts) : Type 0 where
+pub record FactsOf (a b : Design) (allowed : ℕ) (f : Facts) : Type 0 where
   pub inputs : f .inputs ≡ a .inputs
   pub outputs : f .outputs ≡ a .outputs
   pub old-latches : f .«old_latches» ≡ a .latches
   pub new-latches : f .«new_latches» ≡ b .latches
-  pub all : f .pairs ≡ pairs (sizesOf a b)
-  pub alike : Counts (Alike (machineOf a) (machineOf b) (Ok (sizesOf a b))) (sizesOf a b) (f .alike)
-  pub alignable : Counts (Alignable (machineOf a) (machineOf b) (Ok (sizesOf a b))) (sizesOf a b) (f .alignable)
+  pub all : f .pairs ≡ pairs (sizesOf a b allowed)
+  pub alike : Counts (Alike (machineOf a) (machineOf b) (Ok (sizesOf a b allowed))) (sizesOf a b allowed) (f .alike)
+  pub alignable : Counts (Alignable (machineOf a) (machineOf b) (Ok (sizesOf a b allowed))) (sizesOf a b allowed) (f .alignable)
 
 -- "`REFUSED BOTH n`"; else "the verdict with its list's length; then one vector a line", or Apart with its pair and trace
-pub data AnswersDesigns (a b : Design) (n : TablesLent) (s : Lent) (list′ t : List ℕ) : Type 0 where
-  refused : (k : ℕ) → First (CompareFault a b n s) k → Zero list′ → t ≡ refusalText Both k → AnswersDesigns a b n s list′ t
-  found-same : Free (CompareFault a b n s) → (f : Facts) → FactsOf a b f
-      → (m : ℕ) → Decided (machineOf a) (machineOf b) (sizesOf a b) list′ (same m) → t ≡ sameText f (take m list′) → AnswersDesigns a b n s list′ t
-  found-apart : Free (CompareFault a b n s) → (f : Facts) → FactsOf a b f
-      → (p : Pair) (m : ℕ) → Decided (machineOf a) (machineOf b) (sizesOf a b) list′ (apart p m) → t ≡ apartText (machineOf a) (machineOf b) f p (take m list′) → AnswersDesigns a b n s list′ t
+pub data AnswersDesigns (a b : Design) (allowed : ℕ) (n : TablesLent) (s : Lent) (list′ t : List ℕ) : Type 0 where
+  refused : (k : ℕ) → First (CompareFault a b allowed n s) k → Zero list′ → t ≡ refusalText Both k → AnswersDesigns a b allowed n s list′ t
+  found-same : Free (CompareFault a b allowed n s) → (f : Facts) → FactsOf a b allowed f
+      → (m : ℕ) → Decided (machineOf a) (machineOf b) (Ok (sizesOf a b allowed)) (sizesOf a b allowed) list′ (same m) → t ≡ sameText f (take m list′) → AnswersDesigns a b allowed n s list′ t
+  found-apart : Free (CompareFault a b allowed n s) → (f : Facts) → FactsOf a b allowed f
+      → (p : Pair) (m : ℕ) → Decided (machineOf a) (machineOf b) (Ok (sizesOf a b allowed)) (sizesOf a b allowed) list′ (apart p m) → t ≡ apartText (machineOf a) (machineOf b) f p (take m list′) → AnswersDesigns a b allowed n s list′ t
 
 -- "A refusal prints only `REFUSED OLD n`, `REFUSED NEW n` or `REFUSED BOTH n` .., looked for in that order"
-pub data Answers (b : List ℕ) (n : TablesLent) (s : Lent) (list′ t : List ℕ) : Type 0 where
-  old-refused : (k : ℕ) → OldRefused b k → Zero list′ → t ≡ refusalText Old k → Answers b n s list′ t
-  new-refused : (k : ℕ) → OldAccepted b → First (ImageFault (newBytes b)) k → Zero list′ → t ≡ refusalText New k → Answers b n s list′ t
-  designs : OldAccepted b → Free (ImageFault (newBytes b)) → AnswersDesigns (oldDesign b) (newDesign b) n s list′ t → Answers b n s list′ t
+pub data Answers (o : Panel) (b : List ℕ) (n : TablesLent) (s : Lent) (list′ t : List ℕ) : Type 0 where
+  old-refused : (k : ℕ) → OldRefused b k → Zero list′ → t ≡ refusalText Old k → Answers o b n s list′ t
+  new-refused : (k : ℕ) → OldAccepted b → First (ImageFault (newBytes b)) k → Zero list′ → t ≡ refusalText New k → Answers o b n s list′ t
+  designs : OldAccepted b → Free (ImageFault (newBytes b)) → AnswersDesigns (oldDesign b) (newDesign b) (allowedBy o (vectorsOf (oldDesign b))) n s list′ t → Answers o b n s list′ t
 
 -- the list slice keeps its length; beyond the text, text′ is free
-pub record Reports (b : List ℕ) (n : TablesLent) (s : Lent) (list′ text′ : List ℕ) (r : ℕ) : Type 0 where
-  pub answers : Answers b n s list′ (take r text′)
+pub record Reports (o : Panel) (b : List ℕ) (n : TablesLent) (s : Lent) (list′ text′ : List ℕ) (r : ℕ) : Type 0 where
+  pub answers : Answers o b n s list′ (take r text′)
   pub counts : io.Counts r text′
   pub kept : length list′ ≡ s .written
 
@@ -96,14 +100,15 @@ ownTables = tablesLentOf 8192 8192 8192 8192
 abbrev pub ownSlices : ℕ → Lent
 ownSlices n = lentOf 16384 16384 n
 
--- "The list slice has 32,768 bytes"; so `REFUSED BOTH n` is 10 or 16 alone (law refused-both)
-pub record Prints (b text′ : List ℕ) (r : ℕ) : Type 0 where
+-- "The list slice has 32,768 bytes"; so `REFUSED BOTH n` is 10 or 16 alone under `Panel.Every` (law refused-both), and 10, 16 or 20 under
+-- any panel (law refused-named)
+pub record Prints (o : Panel) (b text′ : List ℕ) (r : ℕ) : Type 0 where
   pub list : List ℕ
-  pub reports : Reports b ownTables (ownSlices 32768) list text′ r
+  pub reports : Reports o b ownTables (ownSlices 32768) list text′ r
 
--- to standard output, 1
+-- to standard output, 1; "`align` allows all"
 pub record Outputs (b text′ : List ℕ) (k r : ℕ) : Type 0 where
-  pub prints : Prints b text′ r
+  pub prints : Prints Panel.Every b text′ r
   pub stream : k ≡ 1
 
 -- so that longer input is noticed and not cut: what is printed of so many bytes is what would be printed of all (law whole-input)

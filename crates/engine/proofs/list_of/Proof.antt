@@ -4,14 +4,14 @@ use Rattle.machine.proofs.Pick.{picked-unique}
 use Rattle.seek.proofs.Accepted.{good, room-enough}
 use Rattle.opening.proofs.Clearing.{tidy-of}
 use Rattle.opening.proofs.States.{free-call, free-in}
-use Rattle.engine.proofs.Finds.{lowest-state, keeps-outcome}
+use Rattle.engine.proofs.Finds.{first-state, keeps-outcome}
 use borrow.Author.Needs.{needs}
 use Rattle.engine.proofs.list_of.Statement.{statement}
 use Rattle.engine.proofs.list_of.Tie as tie
 
 returns : tie.Need-returns
 returns c = record {
-  keeps = (lowest-state _ _ _ _ _ (c .before .before .before .before .before .before .before .begin-pair .ensures .0 .some (c .if1 .taken)), c .before .before .before .before .before .before .before .begin-pair .ensures .1 .written .zero);
+  keeps = (first-state _ _ _ _ _ (c .before .before .before .before .before .before .before .begin-pair .ensures .0 .some (c .if1 .taken)), c .before .before .before .before .before .before .before .begin-pair .ensures .1 .written .zero);
   tidy = tidy-of (c .before .before .before .before .before .before .before .begin-pair .ensures .1);
 }
 

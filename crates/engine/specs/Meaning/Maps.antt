@@ -16,7 +16,7 @@ use Rattle.memory.specs.Meaning.Slices.{ZeroFrom, Zero}
 use Rattle.machine.specs.declared.Pair.{Pair}
 use Rattle.machine.specs.declared.Sizes.{Sizes}
 use Rattle.machine.specs.Meaning.Tables.{Tables, pairs, at, In, Flag, AlikeIn, AlignableIn, RoundIn}
-use Rattle.machine.specs.Meaning.Faults.{TablesFault}
+use Rattle.machine.specs.Meaning.Faults.{VectorsFault}
 use Rattle.machine.specs.Meaning.Lent.{Lent, Left, Tidy}
 use Rattle.engine.specs.declared.MappedAlike.{MappedAlike}
 use Rattle.engine.specs.declared.MappedAlignable.{MappedAlignable}
@@ -50,9 +50,9 @@ abbrev pub roomOf : Lent → ℕ
 roomOf s = min (s .written) (min (s .depth) (s .reach))
 
 pub record MapsAlike (t : Tables) (s : Lent) (e : Left) (r : MappedAlike) : Type 0 where
-  pub keeps : Keeps (TablesFault t (roomOf s)) (MarksAlike t (e .written)) (Zero (e .written)) (alikeReply r)
+  pub keeps : Keeps (VectorsFault t (roomOf s)) (MarksAlike t (e .written)) (Zero (e .written)) (alikeReply r)
   pub tidy : Tidy s e
 
 pub record MapsAlignable (t : Tables) (s : Lent) (e : Left) (r : MappedAlignable) : Type 0 where
-  pub keeps : Keeps (TablesFault t (roomOf s)) (Marks (AlignableIn t) (t .sizes) (e .written)) (Zero (e .written)) (alignableReply r)
+  pub keeps : Keeps (VectorsFault t (roomOf s)) (Marks (AlignableIn t) (t .sizes) (e .written)) (Zero (e .written)) (alignableReply r)
   pub tidy : Tidy s e

@@ -1,9 +1,11 @@
--- Who is turned away by the tables and the slices that a call is lent, and by the pair that it is asked about.
+-- Who is turned away by the tables and the slices that a call is lent, by the number that names the allowed vectors, and by the pair that
+-- it is asked about.
 --   OutOfRange z           11
 --   TooShort t room        12
 --   LeadsOut s v next      13, of the table next of s states and v vectors
 --   TablesFault t room n   number n of document 01's table applies to a call that is lent the tables t; of the slices with one entry a
 --                          pair (marks and scratch) the shortest has room entries
+--   VectorsFault t room n  the same, and 20
 --   StateFault t room p n  the same, and 14, of a call for the pair p, whatever it seeks
 use mathlib.Core.Path.{_≡_}
 use mathlib.Core.List.{List}
@@ -11,6 +13,7 @@ use Prim.Native.Nat.{ℕ, _<_, _≤_, _*_}
 use lib.ListN.{length, getD}
 use Rattle.machine.specs.declared.Pair.{Pair}
 use Rattle.machine.specs.declared.Sizes.{Sizes}
+use Rattle.machine.specs.Meaning.Allowed.{WrongAllowed}
 use Rattle.machine.specs.Meaning.Tables.{Tables, pairs}
 
 -- "S states (1..128), V vectors (1..64 ..)"
@@ -41,8 +44,13 @@ pub data TablesFault (t : Tables) (room : ℕ) : ℕ → Type 0 where
   old-leads : LeadsOut (t .sizes .old) (t .sizes .vectors) (t .old-next) → TablesFault t room 13
   new-leads : LeadsOut (t .sizes .new) (t .sizes .vectors) (t .new-next) → TablesFault t room 13
 
--- "14 a state .. not below its count", besides these three
+-- §6: "It refuses with 20, after 14 and before 15, a number that allows none of the V vectors or one beyond them"
+pub data VectorsFault (t : Tables) (room : ℕ) : ℕ → Type 0 where
+  tables : {n : ℕ} → TablesFault t room n → VectorsFault t room n
+  allowed : WrongAllowed (t .sizes) → VectorsFault t room 20
+
+-- "14 a state .. not below its count", besides these four
 pub data StateFault (t : Tables) (room : ℕ) (p : Pair) : ℕ → Type 0 where
-  call : {n : ℕ} → TablesFault t room n → StateFault t room p n
+  call : {n : ℕ} → VectorsFault t room n → StateFault t room p n
   old-state : t .sizes .old ≤ p .old → StateFault t room p 14
   new-state : t .sizes .new ≤ p .new → StateFault t room p 14

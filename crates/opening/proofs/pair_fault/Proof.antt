@@ -1,6 +1,7 @@
--- `pair_fault`: the lowest number, in the order of the tests.
+-- `pair_fault`: the first number, in the order of the tests.
+use Rattle.memory.proofs.Tests.{told-yes, told-no}
 use Rattle.machine.specs.Meaning.Faults.{StateFault}
-use Rattle.opening.proofs.States.{at-call, at-14, at-none}
+use Rattle.opening.proofs.States.{at-call, at-14, at-20, at-none}
 use borrow.Author.Needs.{needs}
 use Rattle.opening.proofs.pair_fault.Statement.{statement}
 use Rattle.opening.proofs.pair_fault.Tie as tie
@@ -15,7 +16,10 @@ returns-3 : tie.Need-returns-3
 returns-3 c = at-14 (c .before .before .before .before .before .before .before .call-fault .ensures .none (c .before .before .before .before .before .before .if1 .left)) (StateFault.new-state (c .if3 .taken))
 
 returns-4 : tie.Need-returns-4
-returns-4 c = at-none (c .before .before .before .before .before .before .before .call-fault .ensures .none (c .before .before .before .before .before .before .if1 .left)) (record { in-old = c .before .before .before .if2 .left; in-new = c .if3 .left })
+returns-4 c = at-20 (c .before .before .before .before .before .before .before .before .before .call-fault .ensures .none (c .before .before .before .before .before .before .before .before .if1 .left)) (record { in-old = c .before .before .before .before .before .if2 .left; in-new = c .before .before .if3 .left }) (told-yes (c .before .wrong-allowed .result) (c .before .wrong-allowed .ensures) (c .if4 .taken))
+
+returns-5 : tie.Need-returns-5
+returns-5 c = at-none (c .before .before .before .before .before .before .before .before .before .call-fault .ensures .none (c .before .before .before .before .before .before .before .before .if1 .left)) (record { in-old = c .before .before .before .before .before .if2 .left; in-new = c .before .before .if3 .left }) (told-no (c .before .wrong-allowed .result) (c .before .wrong-allowed .ensures) (c .if4 .left))
 
 pub pair-fault-spec : {M : Type 1} → statement M
-pair-fault-spec = tie.close (tie.spec (λ c κs. search needs) returns returns-2 returns-3 returns-4)
+pair-fault-spec = tie.close (tie.spec (λ c κs. search needs) returns returns-2 returns-3 (λ c κs. search needs) returns-4 returns-5)

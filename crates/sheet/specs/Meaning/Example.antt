@@ -6,6 +6,7 @@ use mathlib.Core.Path.{_≡_}
 use mathlib.Core.List.{List, _++_}
 use lib.ListN.{length}
 use Rattle.pieces.specs.Meaning.Pieces.{bytes}
+use Rattle.panel.specs.declared.Panel.{Panel}
 use Rattle.align_report.specs.Meaning.Report.{Answers, ownTables, ownSlices}
 use Rattle.sheet.specs.Meaning.Sheet.{imageP, imageQ}
 
@@ -16,4 +17,4 @@ exampleText = bytes "INPUTS 1 OUTPUTS 1 LATCHES 1 1\nALIKE 2 OF 4\nALIGNABLE 4 O
 pub record Example : Type 0 where
   pub list : List ℕ
   pub size : length list ≡ 32768
-  pub answers : Answers (imageP ++ imageQ) ownTables (ownSlices 32768) list exampleText
+  pub answers : Answers Panel.Every (imageP ++ imageQ) ownTables (ownSlices 32768) list exampleText

@@ -28,6 +28,7 @@ use Rattle.format.specs.Meaning.Version.{versionOf}
 use Rattle.format.specs.Meaning.Format.{decoded}
 use Rattle.format.specs.Meaning.Faults.{ImageFault}
 use Rattle.machine.specs.declared.Sizes.{Sizes}
+use Rattle.machine.specs.Meaning.Allowed.{everyVector}
 use Rattle.machine.specs.Meaning.Machine.{Machine}
 use Rattle.machine.specs.Meaning.Rounds.{A, FirstUnchanged}
 use Rattle.machine.specs.Meaning.Tables.{In, Ok}
@@ -76,7 +77,7 @@ abbrev pub shifts : Machine
 shifts = record { next = λ s v. s / 2 + 2 * v; out = λ s v. s % 2 }
 
 abbrev pub four : Sizes
-four = record { old = 4; new = 4; vectors = 2 }
+four = record { old = 4; new = 4; vectors = 2; allowed = everyVector 2 }
 
 pub record Readings : Type 0 where
   -- "0 BUF, 1 NOT, 2 AND, 3 OR, 4 XOR, 5 NAND, 6 NOR, 7 XNOR"

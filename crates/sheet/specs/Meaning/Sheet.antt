@@ -13,11 +13,12 @@ use Prim.Native.Nat.{ℕ, _-_, _<_}
 use mathlib.Core.Path.{_≡_}
 use mathlib.Core.List.{List, [], _∷_}
 use Rattle.memory.specs.Meaning.Refusals.{Free, First}
-use Rattle.netlist.specs.Meaning.Nets.{value, outputs}
+use Rattle.netlist.specs.Meaning.Nets.{vectorsOf, value, outputs}
 use Rattle.simulator.specs.Meaning.Clock.{IsStep}
 use Rattle.format.specs.Meaning.Format.{decoded}
 use Rattle.format.specs.Meaning.Faults.{ImageFault}
 use Rattle.machine.specs.declared.Sizes.{Sizes}
+use Rattle.machine.specs.Meaning.Allowed.{everyVector}
 use Rattle.machine.specs.Meaning.Machine.{Machine, Alike, Alignable, IsTrace, IsList}
 use Rattle.machine.specs.Meaning.Tables.{pairs, Ok}
 use Rattle.machine.specs.Meaning.Verdict.{IsSame, IsApart}
@@ -67,9 +68,9 @@ module _ (a b : List ℕ) where
   abbrev pub new : Machine
   new = machineOf (decoded b)
 
-  -- "Its power-up states are all state numbers below 2 to the L"; "V is 2 to the I"
+  -- "Its power-up states are all state numbers below 2 to the L"; "V is 2 to the I"; the sheet speaks of all V vectors
   abbrev pub sizes : Sizes
-  sizes = sizesOf (decoded a) (decoded b)
+  sizes = sizesOf (decoded a) (decoded b) (everyVector (vectorsOf (decoded a)))
 
   module _ (s0 s1 : ℕ) where
     -- "(0,1) is alike": Definition 4
@@ -90,11 +91,11 @@ module _ (a b : List ℕ) where
 
     -- "Apart 0 0, trace 1"
     abbrev pub FoundApart : List ℕ → Type 0
-    FoundApart l = IsApart old new sizes (record { old = s0; new = s1 }) l
+    FoundApart l = IsApart old new (Ok sizes) sizes (record { old = s0; new = s1 }) l
 
   -- "Same, list 0"
   abbrev pub FoundSame : List ℕ → Type 0
-  FoundSame l = IsSame old new sizes l
+  FoundSame l = IsSame old new (Ok sizes) sizes l
 
   -- "two of four alignable"
   pub record TwoOfFour : Type 0 where

@@ -6,22 +6,22 @@ use Rattle.verdict.proofs.judge.Statement.{statement}
 use Rattle.verdict.proofs.judge.Tie as tie
 
 returns : tie.Need-returns
-returns c = judged-refused _ _ (c .before .before .before .before .before .before .before .before .if1 .taken) (rw (c .before .before .before .before .before .before .before .before .before .before .before .before .before .before .shorter .ensures) at (c .before .before .before .before .before .before .before .before .before .before .before .before .before .call-fault .ensures)) (c .before .before .before .before .before .clear-scratch .ensures .0) (c .before .before .before .before .before .clear-scratch .ensures .1) (c .before .before .before .before .before .before .before .before .before .before .before .clear-bytes .ensures) (c .without-counts .ensures)
+returns c = judged-refused _ _ (c .before .before .before .before .before .before .before .before .if1 .taken) (rw (c .before .before .before .before .before .before .before .before .before .before .before .before .before .before .shorter .ensures) at (c .before .before .before .before .before .before .before .before .before .before .before .before .before .vectors-fault .ensures)) (c .before .before .before .before .before .clear-scratch .ensures .0) (c .before .before .before .before .before .clear-scratch .ensures .1) (c .before .before .before .before .before .before .before .before .before .before .before .clear-bytes .ensures) (c .without-counts .ensures)
 
 map-both-requires : tie.Need-map-both-requires
-map-both-requires c κs = enough ((rw (c .before .before .before .before .before .before .before .before .shorter .ensures) at (c .before .before .before .before .before .before .before .call-fault .ensures)) .none (c .before .before .if1 .left)) refl refl
+map-both-requires c κs = enough ((rw (c .before .before .before .before .before .before .before .before .shorter .ensures) at (c .before .before .before .before .before .before .before .vectors-fault .ensures)) .none (c .before .before .if1 .left)) refl refl
 
 decide-requires : tie.Need-decide-requires
-decide-requires c κs = (mapped ((rw (c .before .before .before .before .before .before .before .before .before .before .before .before .before .before .before .before .shorter .ensures) at (c .before .before .before .before .before .before .before .before .before .before .before .before .before .before .before .call-fault .ensures)) .none (c .before .before .before .before .before .before .before .before .before .before .if1 .left)) (c .before .before .before .before .before .before .before .map-both .kept .1 .1 .1 .1 .1 .0) (c .before .before .before .before .before .before .before .map-both .kept .1 .1 .1 .1 .1 .1 .0) (c .before .before .before .before .before .before .before .map-both .ensures .0), (c .before .before .before .before .before .before .before .map-both .ensures .1, c .before .before .before .before .before .before .before .before .before .before .before .before .before .clear-bytes .ensures .zero))
+decide-requires c κs = (mapped ((rw (c .before .before .before .before .before .before .before .before .before .before .before .before .before .before .before .before .shorter .ensures) at (c .before .before .before .before .before .before .before .before .before .before .before .before .before .before .before .vectors-fault .ensures)) .none (c .before .before .before .before .before .before .before .before .before .before .if1 .left)) (c .before .before .before .before .before .before .before .map-both .kept .1 .1 .1 .1 .1 .0) (c .before .before .before .before .before .before .before .map-both .kept .1 .1 .1 .1 .1 .1 .0) (c .before .before .before .before .before .before .before .map-both .ensures .0), (c .before .before .before .before .before .before .before .map-both .ensures .1, c .before .before .before .before .before .before .before .before .before .before .before .before .before .clear-bytes .ensures .zero))
 
 with-counts-requires : tie.Need-with-counts-requires
-with-counts-requires c κs = let m = mapped ((rw (c .before .before .before .before .before .before .before .before .before .before .before .before .before .before .before .before .before .before .before .before .before .shorter .ensures) at (c .before .before .before .before .before .before .before .before .before .before .before .before .before .before .before .before .before .before .before .before .call-fault .ensures)) .none (c .before .before .before .before .before .before .before .before .before .before .before .before .before .before .before .if1 .left)) (c .before .before .before .before .before .before .before .before .before .before .before .before .map-both .kept .1 .1 .1 .1 .1 .0) (c .before .before .before .before .before .before .before .before .before .before .before .before .map-both .kept .1 .1 .1 .1 .1 .1 .0) (c .before .before .before .before .before .before .before .before .before .before .before .before .map-both .ensures .0) in (m .good .nexts .few, (m .depth-room, m .reach-room))
+with-counts-requires c κs = let m = mapped ((rw (c .before .before .before .before .before .before .before .before .before .before .before .before .before .before .before .before .before .before .before .before .before .shorter .ensures) at (c .before .before .before .before .before .before .before .before .before .before .before .before .before .before .before .before .before .before .before .before .vectors-fault .ensures)) .none (c .before .before .before .before .before .before .before .before .before .before .before .before .before .before .before .if1 .left)) (c .before .before .before .before .before .before .before .before .before .before .before .before .map-both .kept .1 .1 .1 .1 .1 .0) (c .before .before .before .before .before .before .before .before .before .before .before .before .map-both .kept .1 .1 .1 .1 .1 .1 .0) (c .before .before .before .before .before .before .before .before .before .before .before .before .map-both .ensures .0) in (m .good .nexts .few, (m .depth-room, m .reach-room))
 
 same-length-6 : tie.Need-same-length-6
 same-length-6 c = c .before .before .before .before .before .before .before .before .before .before .before .before .decide .kept .1 .1 .1 .1 .1 .1 .1 .1 .0 ∙ c .before .before .before .before .before .before .before .before .before .before .before .before .before .before .before .before .before .before .before .before .before .before .before .before .before .before .clear-bytes .ensures .size
 
 returns-2 : tie.Need-returns-2
-returns-2 c = judged _ _ ((rw (c .before .before .before .before .before .before .before .before .before .before .before .before .before .before .before .before .before .before .before .before .before .before .before .before .before .before .before .before .before .shorter .ensures) at (c .before .before .before .before .before .before .before .before .before .before .before .before .before .before .before .before .before .before .before .before .before .before .before .before .before .before .before .before .call-fault .ensures)) .none (c .before .before .before .before .before .before .before .before .before .before .before .before .before .before .before .before .before .before .before .before .before .before .before .if1 .left)) (c .before .before .before .before .before .before .before .before .before .before .before .before .decide .result) (c .before .before .before .before .before .before .before .before .before .before .before .before .decide .ensures) (c .before .before .before .before .before .before .before .before .before .before .before .before .before .before .before .before .before .before .before .before .map-both .ensures .0) (c .before .before .before .before .before .before .before .with-counts .ensures) (c .before .before .before .before .clear-scratch2 .ensures .0) (c .before .before .before .before .clear-scratch2 .ensures .1) (c .before .before .before .before .before .before .before .before .before .before .before .before .before .before .before .before .before .before .before .before .before .before .before .before .before .before .clear-bytes .ensures .size) (c .before .before .before .before .before .before .before .before .before .before .before .before .before .before .before .before .before .before .before .before .map-both .kept .1 .1 .1 .1 .1 .0) (c .before .before .before .before .before .before .before .before .before .before .before .before .before .before .before .before .before .before .before .before .map-both .kept .1 .1 .1 .1 .1 .1 .0) (c .before .before .before .before .before .before .before .before .before .before .before .before .decide .kept .1 .1 .1 .1 .1 .1 .1 .1 .0)
+returns-2 c = judged _ _ ((rw (c .before .before .before .before .before .before .before .before .before .before .before .before .before .before .before .before .before .before .before .before .before .before .before .before .before .before .before .before .before .shorter .ensures) at (c .before .before .before .before .before .before .before .before .before .before .before .before .before .before .before .before .before .before .before .before .before .before .before .before .before .before .before .before .vectors-fault .ensures)) .none (c .before .before .before .before .before .before .before .before .before .before .before .before .before .before .before .before .before .before .before .before .before .before .before .if1 .left)) (c .before .before .before .before .before .before .before .before .before .before .before .before .decide .result) (c .before .before .before .before .before .before .before .before .before .before .before .before .decide .ensures) (c .before .before .before .before .before .before .before .before .before .before .before .before .before .before .before .before .before .before .before .before .map-both .ensures .0) (c .before .before .before .before .before .before .before .with-counts .ensures) (c .before .before .before .before .clear-scratch2 .ensures .0) (c .before .before .before .before .clear-scratch2 .ensures .1) (c .before .before .before .before .before .before .before .before .before .before .before .before .before .before .before .before .before .before .before .before .before .before .before .before .before .before .clear-bytes .ensures .size) (c .before .before .before .before .before .before .before .before .before .before .before .before .before .before .before .before .before .before .before .before .map-both .kept .1 .1 .1 .1 .1 .0) (c .before .before .before .before .before .before .before .before .before .before .before .before .before .before .before .before .before .before .before .before .map-both .kept .1 .1 .1 .1 .1 .1 .0) (c .before .before .before .before .before .before .before .before .before .before .before .before .decide .kept .1 .1 .1 .1 .1 .1 .1 .1 .0)
 
 pub judge-spec : {M : Type 1} → statement M
 judge-spec =

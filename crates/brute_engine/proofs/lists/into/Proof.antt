@@ -5,10 +5,10 @@ use Rattle.brute_engine.proofs.lists.into.Statement.{statement}
 use Rattle.brute_engine.proofs.lists.into.Tie as tie
 
 abbrev Inv-loop : tie.InvT-loop
-Inv-loop j vector set from₀ pair₀ from pair = pair ≤ 16
+Inv-loop vector set j from₀ pair₀ from pair = pair ≤ 16
 
 abbrev μ-loop : tie.MeasureT-loop
-μ-loop j vector set from₀ pair₀ from pair = 16 - pair
+μ-loop vector set j from₀ pair₀ from pair = 16 - pair
 
 pub into-spec : {M : Type 1} → statement M
 into-spec =
@@ -16,6 +16,7 @@ into-spec =
     (tie.spec
     Inv-loop
     μ-loop
+    (λ c. search needs)
     (λ c. search needs)
     (λ c. search needs)
     (λ c κs. search needs)

@@ -2,8 +2,8 @@
 use lib.Pow.{pow-mono}
 use native.Mathlib.Omega.{arith}
 use borrow.Author.Needs.{needs}
-use Rattle.align_report.proofs.power.Statement.{statement}
-use Rattle.align_report.proofs.power.Tie as tie
+use Rattle.panel.proofs.power.Statement.{statement}
+use Rattle.panel.proofs.power.Tie as tie
 
 returns : tie.Need-returns
 returns c = omega (arith, pow-mono {i = c .args .n} {j = 7} (omega arith))

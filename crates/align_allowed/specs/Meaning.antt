@@ -1,0 +1,2 @@
+-- Definitions that contracts cite.
+pub mod Allowing

@@ -1,0 +1,2 @@
+-- Definitions that public contracts cite.
+pub mod Panel
