@@ -6,7 +6,7 @@
 It was written from the papers, not from the proved code, and goes another way where there is one: an image is a string of 0 and 1, the
 value of a net is found by recursion, a flip-flop that is held or cleared reads another net, an image that version 1 could have held is
 one that would be written otherwise, a set of pairs is a set, the allowed vectors are a list, and what refuses a call is a list of numbers
-of which the first counts.
+of which the first counts. It stops where a trace or a list is longer, or a verdict takes more rounds, than request §7 says.
 """
 import re
 from pathlib import Path
@@ -247,6 +247,7 @@ class Pairs:
         if distance is self.to_tell:
             fit = self.telling(pair)
             steps.append(prior if prior in fit else fit[0])
+        assert len(steps) <= (self.old + self.new - 1 if distance is self.to_tell else self.old * self.new - 1)
         return steps
 
     def verdict(self):
@@ -255,15 +256,16 @@ class Pairs:
             if (s0, s1) not in self.to_align:
                 trace = self.picked((s0, s1), self.to_tell, None)
                 return f"apart {s0} {s1} {len(trace)}", trace
-        olds, news, steps = set(range(self.old)), set(range(self.new)), []
+        olds, news, steps, rounds = set(range(self.old)), set(range(self.new)), [], 0
         while True:
             left = [(s0, s1) for s0 in sorted(olds) for s1 in sorted(news) if (s0, s1) not in self.alike]
             if not left:
+                assert rounds <= self.old + self.new - 1 and len(steps) <= (self.old + self.new - 1) * (self.old * self.new - 1)
                 return f"same {len(steps)}", steps
             more = self.picked(left[0], self.to_align, steps[-1] if steps else None)
             for v in more:
                 olds, news = {self.next0[s * self.vectors + v] for s in olds}, {self.next1[s * self.vectors + v] for s in news}
-            steps += more
+            steps, rounds = steps + more, rounds + 1
 
 
 # The calls.

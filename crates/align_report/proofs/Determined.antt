@@ -7,7 +7,6 @@ use Rattle.memory.proofs.Orders.{first-unique}
 use Rattle.memory.proofs.Slices.{zero-unique}
 use Rattle.netlist.specs.declared.Design.{Design}
 use Rattle.netlist.specs.Meaning.Nets.{vectorsOf}
-use Rattle.evaluator.proofs.Bounds.{next-state-lt}
 use Rattle.machine.specs.Meaning.Allowed.{everyVector}
 use Rattle.machine.specs.Meaning.Lent.{Lent}
 use Rattle.machine.specs.Meaning.Tables.{Ok}
@@ -17,6 +16,7 @@ use Rattle.verdict.specs.Meaning.Decision.{Decision, Decided, same, apart}
 use Rattle.verdict.proofs.Laws.{decision-unique, list-unique}
 use Rattle.compare.specs.Meaning.Designs.{machineOf, sizesOf}
 use Rattle.compare.specs.Meaning.Comparing.{TablesLent}
+use Rattle.compare.proofs.Lengths.{designs-stay}
 use Rattle.report.specs.declared.Facts.{Facts}
 use Rattle.report.specs.declared.Side.{Side}
 use Rattle.report.specs.declared.Side.the-variants.{Old, New, Both}
@@ -39,7 +39,7 @@ facts-unique a b c f g x y =
     λ j. record { inputs = i j; outputs = o j; «old_latches» = l j; «new_latches» = m j; pairs = p j; alike = q j; alignable = r j }
 
 pub closed : (a b : Design) (m : ℕ) → Closed (machineOf a) (machineOf b) (sizesOf a b m)
-closed a b m p v i o = record { in-old = next-state-lt a (p .old) v; in-new = next-state-lt b (p .new) v }
+closed a b m = designs-stay a b m (Ok (sizesOf a b m))
 
 -- one number, one text
 same-refusal : (x : Side) {n m : ℕ} {t u : List ℕ} → n ≡ m → t ≡ refusalText x n → u ≡ refusalText x m → t ≡ u

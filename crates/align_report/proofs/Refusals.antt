@@ -1,11 +1,12 @@
 -- "`REFUSED BOTH n` (10 and 16)": with slices as long as those of the program, no other number is printed of two accepted images where every
--- vector can occur, and none but these and 20 where a number says which can.
-use Prim.Native.Nat.{ℕ, _≤_}
+-- vector can occur, and none but these and 20 where a number says which can. And 16 is never of a trace (request §7).
+use Prim.Native.Nat.{ℕ, _<_, _≤_}
 use mathlib.Core.Path.{_≡_, refl}
 use mathlib.Core.Logic.{_⊎_, inl, inr, ⊎-elim}
 use mathlib.Core.List.{List}
 use native.Mathlib.Omega.{arith}
 use native.Mathlib.Nat.{mul-le-mul}
+use lib.ListN.{length}
 use Rattle.memory.specs.Meaning.Refusals.{Free, First}
 use Rattle.netlist.specs.declared.Design.{Design}
 use Rattle.netlist.specs.Meaning.Faults.{Accepted}
@@ -14,12 +15,15 @@ use Rattle.format.specs.Meaning.Faults.{ImageFault}
 use Rattle.image.proofs.Accepted.{image-accepted}
 use Rattle.netlist.specs.Meaning.Nets.{vectorsOf}
 use Rattle.machine.specs.Meaning.Allowed.{WrongAllowed}
-use Rattle.machine.specs.Meaning.Tables.{pairs}
+use Rattle.machine.specs.Meaning.Tables.{pairs, Ok}
+use Rattle.machine.specs.Meaning.Verdict.{IsSame}
+use Rattle.machine.specs.Meaning.Bounds.{traceRoom}
 use Rattle.machine.proofs.Allowed.{ones-right}
 use Rattle.verdict.specs.Meaning.Decision.{short}
-use Rattle.compare.specs.Meaning.Designs.{sizesOf}
+use Rattle.compare.specs.Meaning.Designs.{machineOf, sizesOf}
 use Rattle.compare.specs.Meaning.Comparing.{CompareFault}
 use Rattle.compare.proofs.Agreement.{states-few, vectors-some, vectors-few}
+use Rattle.compare.proofs.Lengths.{first-same}
 use Rattle.panel.specs.declared.Panel.{Panel}
 use Rattle.panel.specs.Meaning.Panel.{allowedBy}
 use Rattle.align_report.specs.Meaning.Report.{oldBytes, newBytes, oldDesign, newDesign, OldAccepted, ownTables, ownSlices}
@@ -58,3 +62,8 @@ module _ (b : List ℕ) (i k : ℕ) (x : OldAccepted b) (y : Free (ImageFault (n
 
   pub refused-both : First (CompareFault (oldDesign b) (newDesign b) (allowedBy Panel.Every (vectorsOf (oldDesign b))) ownTables (ownSlices i)) k → (k ≡ 10) ⊎ (k ≡ 16)
   refused-both l = ⊎-elim (λ e. e) (λ e. absurd (ones-right (vectors-some (oldDesign b)) refl (e .1))) (any _ (l .applies))
+
+-- request §7: 16 says that the designs are the same, with a list of more steps than the list slice has bytes
+pub long-list : (b : List ℕ) (i m : ℕ) → traceRoom ≤ i → First (CompareFault (oldDesign b) (newDesign b) m ownTables (ownSlices i)) 16
+    → (l : List ℕ) × IsSame (machineOf (oldDesign b)) (machineOf (newDesign b)) (Ok (sizesOf (oldDesign b) (newDesign b) m)) (sizesOf (oldDesign b) (newDesign b) m) l × (i < length l)
+long-list b i m room f = first-same (oldDesign b) (newDesign b) m f room

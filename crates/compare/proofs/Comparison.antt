@@ -146,7 +146,7 @@ both-bounds (BothFault.new (TableFault.out h)) = (omega arith, omega arith)
 both-bounds (BothFault.interface (InterfaceFault.other-inputs d)) = (omega arith, omega arith)
 both-bounds (BothFault.interface (InterfaceFault.other-outputs d)) = (omega arith, omega arith)
 
-both-place : {a b : Design} {n0 m0 n1 m1 k : ℕ} → BothFault a b n0 m0 n1 m1 k → placeIn tableOrder k ≤ 12
+pub both-place : {a b : Design} {n0 m0 n1 m1 k : ℕ} → BothFault a b n0 m0 n1 m1 k → placeIn tableOrder k ≤ 12
 both-place {k = k} f = go (both-bounds f) (decLt k 10)
   where
     go : (0 < k) × (k ≤ 12) → Dec (k < 10) → placeIn tableOrder k ≤ 12

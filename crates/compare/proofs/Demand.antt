@@ -35,7 +35,7 @@ use Rattle.compare.proofs.Comparison.{decided-there}
 
 -- what is decided over the designs' own steps is right
 same-right : (a b : Design) (allowed : ℕ) (l : List ℕ) (n : ℕ) → Decided (machineOf a) (machineOf b) (Ok (sizesOf a b allowed)) (sizesOf a b allowed) l (D.same n) → Right a b allowed l (Verdict.Same n)
-same-right a b allowed l n w = R.same n (w .fits) (λ p i. same-drives-all (machineOf a) (machineOf b) (sizesOf a b allowed) _ (w .sought) p i)
+same-right a b allowed l n w = R.same n (w .fits) (λ p i. same-drives-all (machineOf a) (machineOf b) (Ok (sizesOf a b allowed)) (sizesOf a b allowed) _ (w .sought) p i)
 
 apart-right : (a b : Design) (allowed : ℕ) (l : List ℕ) (p : Pair) (n : ℕ) → Decided (machineOf a) (machineOf b) (Ok (sizesOf a b allowed)) (sizesOf a b allowed) l (D.apart p n) → Right a b allowed l (Verdict.Apart p n)
 apart-right a b allowed l p n w =

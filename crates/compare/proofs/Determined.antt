@@ -2,14 +2,12 @@
 use Prim.Native.Nat.{ℕ, _<_, min}
 use mathlib.Core.Path.{_≡_, sym, _∙_, subst}
 use lib.ListN.{length}
-use Rattle.numbers.proofs.Order.{stable}
 use Rattle.memory.specs.Meaning.Refusals.{Free}
 use Rattle.memory.proofs.Refusals.{kept-unique, keeps-map}
 use Rattle.memory.proofs.Slices.{zero-unique}
 use Rattle.netlist.specs.declared.Design.{Design}
 use Rattle.netlist.specs.Meaning.Faults.{SameDesign}
 use Rattle.netlist.proofs.Same.{same-sym, same-next, same-outputs, same-states, same-vectors}
-use Rattle.simulator.specs.Meaning.Tables.{BothFault, InterfaceFault}
 use Rattle.simulator.proofs.Determined.{Slices, holds-unique, cleared-unique}
 use Rattle.simulator.proofs.Same.{same-holds, both-fault}
 use Rattle.machine.specs.declared.Sizes.{Sizes}
@@ -19,13 +17,12 @@ use Rattle.machine.specs.Meaning.Tables.{pairs, Ok}
 use Rattle.machine.specs.Meaning.Lent.{Lent, Left, Tidy}
 use Rattle.machine.specs.Working.Pairs.{Closed}
 use Rattle.machine.proofs.Lent.{same-left}
-use Rattle.machine.proofs.Transfer.{same-back, same-closed}
 use Rattle.verdict.specs.declared.Judged.{Judged}
 use Rattle.verdict.specs.Meaning.Decision.{Decision, verdictReply, Decided, CountsBeside, ShortList}
 use Rattle.verdict.proofs.Laws.{decision-unique, list-unique, reply-one, judged-one}
 use Rattle.compare.specs.Meaning.Designs.{machineOf, sizesOf}
 use Rattle.compare.specs.Meaning.Comparing.{TablesLent, TablesLeft, CompareFault, Compared, ClearedAll, TablesKept, Compares}
-use Rattle.compare.proofs.Agreement.{tables-agree}
+use Rattle.compare.proofs.Lengths.{designs-stay}
 
 module _ (a b : Design) (allowed : ℕ) (n : TablesLent) (s : Lent) (t u : TablesLeft) (e f : Left) (i : TablesKept n t) (j : TablesKept n u) (x : Tidy s e) (y : Tidy s f) where
   long : length (e .written) ≡ length (f .written)
@@ -50,11 +47,8 @@ module _ (a b : Design) (allowed : ℕ) (n : TablesLent) (s : Lent) (t u : Table
         (list-unique (machineOf a) (machineOf b) (sizesOf a b allowed) closed (e .written) (f .written) long p q (g .decided) (h .decided)),
   )
     where
-      same-inputs : a .inputs ≡ b .inputs
-      same-inputs = stable (a .inputs) (b .inputs) (λ d. none 10 (CompareFault.tabulating (BothFault.interface (InterfaceFault.other-inputs d))))
-
       closed : Closed (machineOf a) (machineOf b) (sizesOf a b allowed)
-      closed = same-closed (same-back (tables-agree a b allowed (t .old-next) (t .old-out) (t .new-next) (t .new-out) same-inputs (g .old) (g .new)))
+      closed = designs-stay a b allowed (Ok (sizesOf a b allowed))
 
   refusals-unique : ClearedAll t e → ClearedAll u f → _≡_ {A = TablesLeft × Left} (t, e) (u, f)
   refusals-unique g h =

@@ -3,3 +3,4 @@ pub mod Comparison
 pub mod Demand
 pub mod Determined
 pub mod Before
+pub mod Lengths

@@ -26,7 +26,7 @@ use Rattle.opening.proofs.States.{state-place}
 place-15 : placeIn tableOrder 15 ≡ 16
 place-15 = omega (arith, place-last 15 (omega arith) (omega arith))
 
-place-16 : placeIn tableOrder 16 ≡ 17
+pub place-16 : placeIn tableOrder 16 ≡ 17
 place-16 = omega (arith, place-last 16 (omega arith) (omega arith))
 
 -- 15 and 16 come after 11 to 14 and 20

@@ -2,3 +2,4 @@ pub mod Marks
 pub mod Finds
 pub mod Determined
 pub mod Before
+pub mod Lengths

@@ -27,7 +27,7 @@ module _ (m0 m1 : Machine) (z : Sizes) (closed : Closed m0 m1 z) where
 
   -- Theorem 1 of document 000
   pub one-list-aligns-all : AllAlign m0 m1 (Ok z) z → (l : List ℕ) × ((p : Pair) → In z p → Leads (step m0 m1) (Ok z) (Alike m0 m1 (Ok z)) p l)
-  one-list-aligns-all all = let s = same-exists all in (s .0, same-drives-all m0 m1 z (s .0) (s .1))
+  one-list-aligns-all all = let s = same-exists all in (s .0, same-drives-all m0 m1 (Ok z) z (s .0) (s .1))
 
   -- every pair is alignable, or there is a lowest that is not
   pub all-or-apart : AllAlign m0 m1 (Ok z) z ⊎ ((p : Pair) × LowestApart m0 m1 (Ok z) z p)

@@ -3,3 +3,4 @@ pub mod Order
 pub mod Maps
 pub mod Pairs
 pub mod Sets
+pub mod Answers

@@ -1,6 +1,6 @@
 -- n + 1 numbers below n: two of them are equal.
 use Prim.Native.Nat.{ℕ, zero, suc, _<_, _≤_}
-use mathlib.Core.Path.{_≡_, sym, _∙_}
+use mathlib.Core.Path.{_≡_, refl, sym, _∙_}
 use mathlib.Core.Logic.{⊎-elim}
 use native.Mathlib.Omega.{arith}
 use native.Mathlib.Nat.{not-suc-le-zero}
@@ -13,9 +13,19 @@ abbrev pub Twice : ℕ → (ℕ → ℕ) → Type 0
 Twice n f = (a : ℕ) × (b : ℕ) × (a < b) × (b ≤ n) × (f a ≡ f b)
 
 -- y in the place of n
-put : (x y n : ℕ) → Dec (x ≡ n) → ℕ
+pub put : (x y n : ℕ) → Dec (x ≡ n) → ℕ
 put x y n (yes e) = y
 put x y n (no e) = x
+
+pub put-at : (x y n : ℕ) (t : Dec (x ≡ n)) → x ≡ n → put x y n t ≡ y
+unfolding put
+put-at x y n (yes e) q = refl
+put-at x y n (no e) q = absurd (e q)
+
+pub put-off : (x y n : ℕ) (t : Dec (x ≡ n)) → (x ≡ n → ⊥) → put x y n t ≡ x
+unfolding put
+put-off x y n (yes e) q = absurd (q e)
+put-off x y n (no e) q = refl
 
 put-lt : (x y n : ℕ) (t : Dec (x ≡ n)) → x < suc n → y < suc n → (x ≡ y → ⊥) → put x y n t < n
 unfolding put

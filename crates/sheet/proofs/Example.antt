@@ -122,7 +122,7 @@ new-accepted : Accepted b
 new-accepted = image-accepted imageQ (q-drawn .accepted)
 
 enough : Enough a b every (ownSlices 32768)
-enough = record { scratch = omega (arith, pairs-most every old-accepted new-accepted); list = λ l w. omega (arith, ap length (written-unique (machineOf a) (machineOf b) (sizesOf a b every) (closed a b every) l (0 ∷ []) w (W.same pq-same))) }
+enough = record { scratch = omega (arith, pairs-most every old-accepted new-accepted); list = λ l w. omega (arith, ap length (written-unique (machineOf a) (machineOf b) (Ok (sizesOf a b every)) (sizesOf a b every) (closed a b every) l (0 ∷ []) w (W.same pq-same))) }
 
 compared : Free (CompareFault a b every ownTables (ownSlices 32768))
 compared =

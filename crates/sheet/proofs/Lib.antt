@@ -7,4 +7,5 @@ pub mod Sheet
 pub mod Readings
 pub mod Example
 pub mod Toggles
+pub mod Lengths
 pub mod Panels

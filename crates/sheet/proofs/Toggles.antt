@@ -11,7 +11,7 @@ use Rattle.machine.specs.Meaning.Lists.{Leads}
 use Rattle.machine.specs.Meaning.Pick.{Shortest, GoesOn, IsTaken}
 use Rattle.machine.specs.Meaning.Machine.{step, Alike, ListAfter, IsTrace, IsList}
 use Rattle.machine.specs.Meaning.Tables.{Ok}
-use Rattle.machine.specs.Meaning.Verdict.{May, LowestOpen, done, more, IsSame}
+use Rattle.machine.specs.Meaning.Verdict.{May, LowestOpen, done, more, roundsTaken, IsSame}
 use Rattle.machine.proofs.Choice.{vector-inj, chosen-kept, takes-start, takes-kept}
 use Rattle.machine.proofs.Pairs.{Different}
 use Rattle.machine.proofs.Pick.{shortest-same, picked-first}
@@ -120,11 +120,16 @@ open-2 = record {
 aligned : (p : Pair) → May merges merges fours (1 ∷ 1 ∷ []) p → Alike merges merges (Ok fours) p
 aligned p y = equal-alike p (omega (arith, y .inside .in-old, y .inside .in-new, ap (λ (p : Pair). p .old) (y .arrives), ap (λ (p : Pair). p .new) (y .arrives)))
 
-rounds : IsSame merges merges (Ok fours) fours (1 ∷ 1 ∷ [])
+pub rounds : IsSame merges merges (Ok fours) fours (1 ∷ 1 ∷ [])
 rounds = record {
   all = record { all = λ p i. record { list = 1 ∷ 1 ∷ []; leads = aligns-two p 1 1 fed-1 fed-1 (omega (arith, i .in-old, i .in-new)) } };
   rounds = more (both 0 1) open-1 (1 ∷ []) round-1 (more (both 2 3) open-2 (1 ∷ []) round-2 (done refl aligned));
 }
+
+-- request §7: there are two
+pub two-taken : roundsTaken merges merges (Ok fours) fours (rounds .rounds) ≡ 2
+unfolding rounds
+two-taken = refl
 
 -- the trace: one step to a pair that shows different outputs, and the same vector shows them
 abbrev Splits : List ℕ → Type 0

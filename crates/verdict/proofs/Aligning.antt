@@ -20,6 +20,7 @@ use Rattle.machine.specs.Meaning.Pick.{after}
 use Rattle.machine.specs.Meaning.Tables.{Tables, bothTables, pairs, number, at, In, Ok, oldMachine, newMachine, AlikeIn}
 use Rattle.machine.specs.Meaning.Verdict.{May, LowestOpen, Rounds, done, more, AllAlign}
 use Rattle.machine.specs.Working.Pairs.{pairAt, stepIn, ListAfterIn}
+use Rattle.machine.proofs.Answers.{run-pair}
 use Rattle.machine.proofs.Lists.{each-append}
 use Rattle.machine.proofs.Maps.{goal-of-one, one-of-goal}
 use Rattle.machine.proofs.Numbers.{same-pair, pair-number, number-in, pairAt-in, number-pair}
@@ -52,11 +53,6 @@ module _ (t : Tables) where
 
   abbrev m1 : Machine
   m1 = newMachine t
-
-  -- both designs run side by side
-  run-pair : (p : Pair) (l : List ℕ) → run (stepIn t) p l ≡ record { old = run (m0 .next) (p .old) l; new = run (m1 .next) (p .new) l }
-  run-pair p [] = refl
-  run-pair p (v ∷ l) = run-pair (stepIn t p v) l
 
   below-all : (l : List ℕ) → Each (Ok z) l → Each (λ v. v < z .vectors) l
   below-all [] o = tt
@@ -112,14 +108,14 @@ module _ (t : Tables) where
           record {
             from = record { old = x .0; new = y .0 };
             inside = record { in-old = x .1; in-new = y .1 };
-            arrives = run-pair (record { old = x .0; new = y .0 }) (take len list) ∙ same-pair (x .2) (y .2);
+            arrives = run-pair m0 m1 (record { old = x .0; new = y .0 }) (take len list) ∙ same-pair (x .2) (y .2);
           }
 
       marked : (q : Pair) → May m0 m1 z (take len list) q → (getD marks0 (q .old) false ≡ true) × (getD marks1 (q .new) false ≡ true)
-      marked q y = subst (λ (x : Pair). (getD marks0 (x .old) false ≡ true) × (getD marks1 (x .new) false ≡ true)) (sym (run-pair (y .from) (take len list)) ∙ y .arrives) (w .after0 .forth (y .from .old) (y .inside .in-old), w .after1 .forth (y .from .new) (y .inside .in-new))
+      marked q y = subst (λ (x : Pair). (getD marks0 (x .old) false ≡ true) × (getD marks1 (x .new) false ≡ true)) (sym (run-pair m0 m1 (y .from) (take len list)) ∙ y .arrives) (w .after0 .forth (y .from .old) (y .inside .in-old), w .after1 .forth (y .from .new) (y .inside .in-new))
 
       may-inside : (q : Pair) → May m0 m1 z (take len list) q → In z q
-      may-inside q y = may-in m0 m1 z (inside t (m .good)) (take len list) (w .ok) q y
+      may-inside q y = may-in m0 m1 (Ok z) z (inside t (m .good)) (take len list) (w .ok) q y
 
       module _ {i : ℕ} (s : LowestBelow (OpenAt z marks0 marks1 reach) (pairs z) i) where
         -- a pair below the one that the scan found is alike
@@ -164,7 +160,7 @@ module _ (t : Tables) where
                 let w′ = its-list f in
                 let r = rounds-exist m0 m1 z (inside t (m .good)) all (take len list ++ part) (each-append (Ok z) (take len list) part (w .ok) (w′ .shortest .has .allowed)) in
                 short (λ x. x) (r .0) (record { all = all; rounds = w .joins (r .0) (more p lowest part w′ (r .1)) })
-                (omega (arith, rounds-extend m0 m1 z (r .0) (take len list ++ part) (r .1), length-append (take len list) part, length-take-le len list (w .under), w .long))
+                (omega (arith, rounds-extend m0 m1 (Ok z) z (r .0) (take len list ++ part) (r .1), length-append (take len list) part, length-take-le len list (w .under), w .long))
                 (zero-unique _ list₀ (c .size ∙ k ∙ w .long) (c .zero) o)
 
             module _ {on : List ℕ} {k : ℕ} (a : Added (Follows z (t .old-next) (t .new-next) reach p list len) len list on k) where

@@ -73,7 +73,7 @@ module _ (t : Tables) where
       above (short l w h) b = omega arith
 
   fitting : Good t → (list list′ : List ℕ) (n : ℕ) → length list′ ≡ length list → n ≤ length list → VerdictList m0 m1 (Ok z) z (take n list′) → Free (ShortList m0 m1 (Ok z) z (length list))
-  fitting g list list′ n e f w k (short l y h) = omega (arith, ap length (written-unique m0 m1 z (inside t g) l (take n list′) y w), length-take-le n list′ (omega (arith, e)))
+  fitting g list list′ n e f w k (short l y h) = omega (arith, ap length (written-unique m0 m1 (Ok z) z (inside t g) l (take n list′) y w), length-take-le n list′ (omega (arith, e)))
 
   -- the answers
   module _ (g : Good t) {list list′ : List ℕ} (o : Zero list) (e : length list′ ≡ length list) where

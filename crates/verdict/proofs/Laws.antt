@@ -51,7 +51,7 @@ module _ (m0 m1 : Machine) (z : Sizes) (closed : Closed m0 m1 z) where
 
   module _ (a b : List ℕ) (e : length a ≡ length b) where
     front : (x y : Decision) → Decided m0 m1 (Ok z) z a x → Decided m0 m1 (Ok z) z b y → take (stepsOf x) a ≡ take (stepsOf y) b
-    front x y p q = written-unique m0 m1 z closed (take (stepsOf x) a) (take (stepsOf y) b) (written x (p .sought)) (written y (q .sought))
+    front x y p q = written-unique m0 m1 (Ok z) z closed (take (stepsOf x) a) (take (stepsOf y) b) (written x (p .sought)) (written y (q .sought))
 
     steps : (x y : Decision) → Decided m0 m1 (Ok z) z a x → Decided m0 m1 (Ok z) z b y → stepsOf x ≡ stepsOf y
     steps x y p q = sym (length-take-le (stepsOf x) a (p .fits)) ∙ ap length (front x y p q) ∙ length-take-le (stepsOf y) b (q .fits)
@@ -59,10 +59,10 @@ module _ (m0 m1 : Machine) (z : Sizes) (closed : Closed m0 m1 z) where
     -- no two decisions are right, and no two lists
     pub decision-unique : (x y : Decision) → Decided m0 m1 (Ok z) z a x → Decided m0 m1 (Ok z) z b y → x ≡ y
     decision-unique (same n) (same k) p q = ap same (steps (same n) (same k) p q)
-    decision-unique (same n) (apart w k) p q = absurd (same-not-apart m0 m1 z _ _ w (p .sought) (q .sought))
-    decision-unique (apart v n) (same k) p q = absurd (same-not-apart m0 m1 z _ _ v (q .sought) (p .sought))
+    decision-unique (same n) (apart w k) p q = absurd (same-not-apart m0 m1 (Ok z) z _ _ w (p .sought) (q .sought))
+    decision-unique (apart v n) (same k) p q = absurd (same-not-apart m0 m1 (Ok z) z _ _ v (q .sought) (p .sought))
     decision-unique (apart v n) (apart w k) p q =
-        let f = apart-unique m0 m1 z v w (p .sought .lowest) (q .sought .lowest) in
+        let f = apart-unique m0 m1 (Ok z) z v w (p .sought .lowest) (q .sought .lowest) in
         let g = steps (apart v n) (apart w k) p q in
         cc
 
@@ -92,7 +92,7 @@ module _ (t : Tables) (s : Lent) where
     judged-list = written-exists m0 m1 (t .sizes) (inside t (good none))
 
     pub judged-list-unique : (a b : List ℕ) → VerdictList m0 m1 (Ok (t .sizes)) (t .sizes) a → VerdictList m0 m1 (Ok (t .sizes)) (t .sizes) b → a ≡ b
-    judged-list-unique = written-unique m0 m1 (t .sizes) (inside t (good none))
+    judged-list-unique = written-unique m0 m1 (Ok (t .sizes)) (t .sizes) (inside t (good none))
 
   closed : Free (JudgeFault t s) → Closed m0 m1 (t .sizes)
   closed f = inside t (good (λ n x. f n (call x)))

@@ -5,3 +5,4 @@ pub mod Tallies
 pub mod Judging
 pub mod Laws
 pub mod Before
+pub mod Lengths

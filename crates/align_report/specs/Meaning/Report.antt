@@ -101,7 +101,7 @@ abbrev pub ownSlices : ℕ → Lent
 ownSlices n = lentOf 16384 16384 n
 
 -- "The list slice has 32,768 bytes"; so `REFUSED BOTH n` is 10 or 16 alone under `Panel.Every` (law refused-both), and 10, 16 or 20 under
--- any panel (law refused-named)
+-- any panel (law refused-named); and 16 is of the list of Same alone (law long-list)
 pub record Prints (o : Panel) (b text′ : List ℕ) (r : ℕ) : Type 0 where
   pub list : List ℕ
   pub reports : Reports o b ownTables (ownSlices 32768) list text′ r
