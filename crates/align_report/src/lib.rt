@@ -60,7 +60,7 @@ pub fn write_report(input: &[u8], panel: Panel, list: &mut [u8], text: &mut [u8]
     let mut old_out = [0u8; ENTRIES];
     let mut new_next = [0u8; ENTRIES];
     let mut new_out = [0u8; ENTRIES];
-    let mut depth = [0u16; PAIRS];
+    let mut depth = [0u8; PAIRS];
     let mut reach = [0u16; PAIRS];
     memory::clear_bytes(list);
     write_images(
@@ -86,7 +86,7 @@ fn write_images(
     old_out: &mut [u8],
     new_next: &mut [u8],
     new_out: &mut [u8],
-    depth: &mut [u16],
+    depth: &mut [u8],
     reach: &mut [u16],
     list: &mut [u8],
     text: &mut [u8],
@@ -136,7 +136,7 @@ fn write_comparison(
     old_out: &mut [u8],
     new_next: &mut [u8],
     new_out: &mut [u8],
-    depth: &mut [u16],
+    depth: &mut [u8],
     reach: &mut [u16],
     list: &mut [u8],
     text: &mut [u8],

@@ -64,7 +64,7 @@ pub(crate) fn ask(m: Machines, question: Question, lent: &mut [u8]) -> [usize; P
 
 // Asks for a map.
 fn ask_map(m: Machines, call: usize, mark: &mut [u8]) -> [usize; PLACES] {
-    let mut depth = [9u16; SCRATCH];
+    let mut depth = [9u8; SCRATCH];
     let mut reach = [9u16; SCRATCH];
     let old_next = m.old_next;
     let old_out = m.old_out;
@@ -98,7 +98,7 @@ fn ask_map(m: Machines, call: usize, mark: &mut [u8]) -> [usize; PLACES] {
 
 // Asks for the trace or the list of a pair.
 fn ask_pair(m: Machines, call: usize, pair: Pair, list: &mut [u8]) -> [usize; PLACES] {
-    let mut depth = [9u16; SCRATCH];
+    let mut depth = [9u8; SCRATCH];
     let mut reach = [9u16; SCRATCH];
     let old_next = m.old_next;
     let old_out = m.old_out;
@@ -134,7 +134,7 @@ fn ask_pair(m: Machines, call: usize, pair: Pair, list: &mut [u8]) -> [usize; PL
 
 // Asks for the verdict and its counts.
 fn ask_verdict(m: Machines, list: &mut [u8]) -> [usize; PLACES] {
-    let mut depth = [9u16; SCRATCH];
+    let mut depth = [9u8; SCRATCH];
     let mut reach = [9u16; SCRATCH];
     let old_next = m.old_next;
     let old_out = m.old_out;
@@ -154,7 +154,7 @@ fn ask_verdict(m: Machines, list: &mut [u8]) -> [usize; PLACES] {
 }
 
 // How many entries of scratch are not zero.
-fn dirty(depth: &[u16; SCRATCH], reach: &[u16; SCRATCH]) -> usize {
+fn dirty(depth: &[u8; SCRATCH], reach: &[u16; SCRATCH]) -> usize {
     let mut n = 0;
     for i in 0..SCRATCH {
         if depth[i] != 0 {

@@ -20,7 +20,7 @@ pub fn compare(
     old_out: &mut [u8],
     new_next: &mut [u8],
     new_out: &mut [u8],
-    depth: &mut [u16],
+    depth: &mut [u8],
     reach: &mut [u16],
     list: &mut [u8],
 ) -> Judged
@@ -69,7 +69,7 @@ fn judge_or_clear(
     new_next: &mut [u8],
     new_out: &mut [u8],
     sizes: Sizes,
-    depth: &mut [u16],
+    depth: &mut [u8],
     reach: &mut [u16],
     list: &mut [u8],
 ) -> Judged

@@ -17,7 +17,7 @@ use Rattle.memory.proofs.Table.{listed-stands}
 use Rattle.machine.specs.declared.Found.{Found}
 use Rattle.machine.specs.declared.Pair.{Pair}
 use Rattle.machine.specs.Meaning.Tables.{Tables}
-use Rattle.seek.specs.Working.Steps.{Outcome, missing, short, steps}
+use Rattle.places.specs.Working.{Outcome, missing, short, steps}
 use Rattle.machine.specs.Meaning.Lent.{Lent, Listed}
 use Rattle.machine.specs.Meaning.Faults.{StateFault}
 use Rattle.engine.specs.Meaning.Pairs.{foundReply, PairFault}

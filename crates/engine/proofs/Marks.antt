@@ -15,8 +15,10 @@ use Rattle.machine.specs.Working.Pairs.{DiffersIn}
 use Rattle.machine.proofs.Rounds.{first-unchanged}
 use Rattle.flags.specs.Working.{Flagged}
 use Rattle.machine.proofs.Numbers.{number-in}
-use Rattle.seek.specs.Working.Steps.{Good, MapFor, MapOf}
-use Rattle.seek.proofs.Sets.{flag-is, alike-of-zero, zero-of-alike}
+use Rattle.places.specs.Working.{Good, MapFor}
+use Rattle.seek.specs.Working.Steps.{MapOf}
+use Rattle.places.proofs.Right.{alike-of-zero, zero-of-alike}
+use Rattle.seek.proofs.Sets.{flag-is}
 use Rattle.engine.specs.Meaning.Maps.{Marks}
 
 -- what fits the shortest of three fits each

@@ -4,8 +4,8 @@
 --   Flagged P n d d′         the first n entries of d′ say where P holds, and the others are those of d
 use mathlib.Core.Path.{_≡_}
 use mathlib.Core.List.{List}
-use Prim.Native.Nat.{ℕ, _<_, _≤_}
-use lib.ListN.{length, getD}
+use Prim.Native.Nat.{ℕ}
+use Rattle.memory.specs.Working.Filling.{Written}
 use Rattle.machine.specs.declared.Pair.{Pair}
 use Rattle.machine.specs.declared.Sizes.{Sizes}
 use Rattle.machine.specs.Meaning.Tables.{entry, Ok, Flag}
@@ -18,7 +18,5 @@ pub record Different (z : Sizes) (out0 out1 : List ℕ) (p : Pair) (v : ℕ) : T
 abbrev pub DiffersAt : Sizes → List ℕ → List ℕ → ℕ → Type 0
 DiffersAt z out0 out1 q = Differs (entry z out0) (entry z out1) (Ok z) (pairAt z q)
 
-pub record Flagged (P : ℕ → Type 0) (n : ℕ) (d d′ : List ℕ) : Type 0 where
-  pub each : (q : ℕ) → q < n → Flag (P q) (getD d′ q 0)
-  pub beyond : (q : ℕ) → n ≤ q → getD d′ q 0 ≡ getD d q 0
-  pub long : length d′ ≡ length d
+abbrev pub Flagged : (ℕ → Type 0) → ℕ → List ℕ → List ℕ → Type 0
+Flagged P n d d′ = Written (λ q x. Flag (P q) x) n d d′

@@ -55,18 +55,17 @@ pub fn chosen_different(
     different_vector(old_out, new_out, sizes, p)
 }
 
-// The first n entries of reach become 1 where depth holds 0, and 0 elsewhere.
-pub fn aligned_start(depth: &[u16], n: usize, reach: &mut [u16])
-    requires { ⌜ n ≤ length (now depth) ⌝ }
-    requires { ⌜ n ≤ length (now reach) ⌝ }
-    ensures { λ r. ⌜ Flagged (λ q. getD (now (depth .entry)) q 0 ≡ 0) n (now (reach .entry)) (now (reach .exit)) ⌝ }
+// The first n entries of a map become 1 where they are 0, and 0 elsewhere.
+pub fn flag_zeros(entries: &mut [u16], n: usize)
+    requires { ⌜ n ≤ length (now entries) ⌝ }
+    ensures { λ r. ⌜ Flagged (λ q. getD (now (entries .entry)) q 0 ≡ 0) n (now (entries .entry)) (now (entries .exit)) ⌝ }
 {
     let mut i = 0;
     while i < n {
-        if depth[i] == 0 {
-            reach[i] = 1;
+        if entries[i] == 0 {
+            entries[i] = 1;
         } else {
-            reach[i] = 0;
+            entries[i] = 0;
         }
         i += 1;
     }

@@ -1,12 +1,13 @@
 -- No trace has as many steps as the two machines have states together: with each step that a shortest trace has more, lists of so many steps
 -- part these states into at least one class more.
 use mathlib.Core.Path.{_≡_, refl, ap}
+use mathlib.Core.Logic.{⊎-elim}
 use mathlib.Core.List.{List, [], _∷_, _++_}
 use Prim.Native.Nat.{ℕ, zero, suc, _<_, _≤_, _+_}
 use native.Mathlib.Omega.{arith}
 use native.Mathlib.Nat.{suc-inj}
 use lib.ListN.{length, length-append}
-use Rattle.numbers.proofs.Order.{stable}
+use Rattle.numbers.proofs.Order.{stable, zero-or}
 use Rattle.machine.specs.declared.Pair.{Pair}
 use Rattle.machine.specs.declared.Sizes.{Sizes}
 use Rattle.machine.specs.Meaning.Lists.{Leads}
@@ -14,7 +15,7 @@ use Rattle.machine.specs.Meaning.Pick.{Shortest}
 use Rattle.machine.specs.Meaning.Machine.{Machine, step, Shows}
 use Rattle.machine.specs.Meaning.Tables.{In}
 use Rattle.machine.specs.Meaning.Bounds.{mostTrace, StaysIn}
-use Rattle.machine.specs.Working.Maps.{Dist}
+use Rattle.machine.specs.Working.Maps.{Dist, Complete}
 use Rattle.machine.specs.Working.Answers.{answer, Early}
 use Rattle.machine.proofs.Lists.{each-append, leads-cons, leads-tail}
 use Rattle.machine.proofs.Pairs.{Different}
@@ -75,6 +76,10 @@ module _ (m0 m1 : Machine) (Ok : ℕ → Type 0) (z : Sizes) (stays : StaysIn m0
   -- a pair that a list of k steps, and no shorter one, leads to different outputs: the step that shows them is the last of so many
   pub differs-near : (p : Pair) (k : ℕ) → In z p → Dist (step m0 m1) Ok (Different m0 m1 Ok) p k → suc k ≤ mostTrace z
   differs-near p k i d = omega (arith, far-many k (z .old + z .new) p i d (classes-start (answer m0 m1 (z .old)) (z .old + z .new) (Early Ok (suc k))))
+
+  -- §8: so a map to different outputs, which holds how long traces are, holds no more
+  pub map-near : (m : Pair → ℕ) → Complete (step m0 m1) Ok (Different m0 m1 Ok) (In z) m → (p : Pair) → In z p → m p ≤ mostTrace z
+  map-near m c p i = ⊎-elim (λ e. omega (arith, e)) (λ e. omega (arith, e .1, differs-near p (e .0) i (c .dist p i (e .0) (e .1)))) (zero-or (m p))
 
   far-of-shortest : (p : Pair) (l : List ℕ) → Shortest (Shows m0 m1 Ok p) l → (k : ℕ) × (length l ≡ suc k) × Far p k
   far-of-shortest p l s =

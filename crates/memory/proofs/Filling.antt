@@ -1,6 +1,6 @@
 -- Laws on lists that are filled from the front.
 use Prim.Native.Nat.{ℕ, _+_, _<_}
-use mathlib.Core.Path.{_≡_, refl, _∙_}
+use mathlib.Core.Path.{_≡_, refl, _∙_, subst}
 use mathlib.Core.List.{List}
 use native.Mathlib.Omega.{arith}
 use native.Mathlib.Nat.{not-suc-le-zero}
@@ -9,7 +9,7 @@ use borrow.Author.Count.{below-more}
 use lib.ListN.{length, getD, set, replicate, length-set, length-replicate, getD-replicate, List·getD-eq-default}
 use lib.Seq.{getD-set-same, getD-set-other}
 use Rattle.memory.specs.Meaning.Slices.{Zero}
-use Rattle.memory.specs.Working.Filling.{Filled}
+use Rattle.memory.specs.Working.Filling.{Filled, Written}
 
 -- a list of n z's holds z everywhere
 pub all-same : {A : Type 0} (z : A) (n k : ℕ) → getD (replicate n z) k z ≡ z
@@ -34,3 +34,17 @@ filled-more f z n i l v h e w = record {
       (getD-set-same l i v z (rw (w .size) h) ∙ e);
   rest = λ k le. getD-set-other l i k v z (λ q. omega arith) ∙ w .rest k (omega arith);
 }
+
+-- nothing is written, one entry more is, and all are
+pub written-start : {R : ℕ → ℕ → Type 0} (l : List ℕ) → Written R 0 l l
+written-start l = record { each = λ q h. absurd (omega arith); beyond = λ q h. refl; long = refl }
+
+pub written-more : {R : ℕ → ℕ → Type 0} {n : ℕ} {l₀ l : List ℕ} (x : ℕ) → Written R n l₀ l → n < length l₀ → R n x → Written R (n + 1) l₀ (set l n x)
+written-more {R} {n} {l₀} {l} x w h r = record {
+  each = below-more (λ (q : ℕ). R q (getD (set l n x) q 0)) n (λ q k. rw (getD-set-other l n q x 0 (omega arith)) (w .each q k)) (rw (getD-set-same l n x 0 (omega (arith, w .long))) r);
+  beyond = λ q k. getD-set-other l n q x 0 (omega arith) ∙ w .beyond q (omega arith);
+  long = length-set l n x ∙ w .long;
+}
+
+pub written-end : {R : ℕ → ℕ → Type 0} {n m : ℕ} {l₀ l : List ℕ} → n ≡ m → Written R n l₀ l → Written R m l₀ l
+written-end {R} {n} {m} {l₀} {l} e w = subst (λ (k : ℕ). Written R k l₀ l) e w

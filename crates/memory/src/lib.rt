@@ -29,12 +29,12 @@ pub fn clear_numbers(numbers: &mut [u16])
     }
 }
 
-// Both scratch slices become 0 throughout.
-pub fn clear_scratch(depth: &mut [u16], reach: &mut [u16])
+// Both scratch slices, one of bytes and one of numbers, become 0 throughout.
+pub fn clear_scratch(depth: &mut [u8], reach: &mut [u16])
     ensures { λ _. ⌜ Cleared (length (now (depth .entry))) (now (depth .exit)) ⌝ }
     ensures { λ _. ⌜ Cleared (length (now (reach .entry))) (now (reach .exit)) ⌝ }
 {
-    clear_numbers(depth);
+    clear_bytes(depth);
     clear_numbers(reach);
 }
 

@@ -17,7 +17,7 @@ pub fn begin_map(
     new_next: &[u8],
     new_out: &[u8],
     sizes: Sizes,
-    depth: &mut [u16],
+    depth: &mut [u8],
     reach: &mut [u16],
     mark: &mut [u8],
 ) -> u8
@@ -38,7 +38,7 @@ pub fn begin_pair(
     new_out: &[u8],
     sizes: Sizes,
     pair: Pair,
-    depth: &mut [u16],
+    depth: &mut [u8],
     reach: &mut [u16],
     list: &mut [u8],
 ) -> u8
@@ -52,7 +52,7 @@ pub fn begin_pair(
 }
 
 // Every lent slice becomes 0 throughout.
-fn clear_lent(depth: &mut [u16], reach: &mut [u16], written: &mut [u8])
+fn clear_lent(depth: &mut [u8], reach: &mut [u16], written: &mut [u8])
     ensures { λ _. ⌜ Emptied (lentOf (length (now (depth .entry))) (length (now (reach .entry))) (length (now (written .entry)))) (leftOf (now (depth .exit)) (now (reach .exit)) (now (written .exit))) ⌝ }
 {
     memory::clear_scratch(depth, reach);

@@ -1,3 +1,4 @@
 pub mod Places
 pub mod Choosing
 pub mod Priors
+pub mod Right

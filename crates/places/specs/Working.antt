@@ -1,5 +1,5 @@
--- Tables and maps that are long enough, places in them, and numbers to take. z are the sizes, next0 and next1 the tables of next states,
--- out0 and out1 those of outputs, d a map.
+-- Tables and maps that are long enough, places in them, numbers to take, and what is found by a map that is right. z are the sizes, next0
+-- and next1 the tables of next states, out0 and out1 those of outputs, d a map.
 --   move z next0 next1 p v   the pair after one step of both designs
 --   Few z                    the sizes are within the engine's limits
 --   Nexts, Outs, Walk        tables and map are long enough, and tables lead to states
@@ -9,15 +9,23 @@
 --   NoneBelow P n v          none of the numbers below v, which is at most n, has P
 --   Ones z d                 the set of the pairs for which the map holds 1
 --   Ready .. d               the map d is right for the set of its ones
+--   Good t                   the tables t are accepted
+--   MapFor t G d             the map d of the tables t is right for the set G
+--   ListTo .. d s p l        l is the list picked from the pair p to a pair for which the map d holds 1, where s comes before it
+--   Outcome N S l l′ r       what a call leaves in the slice l′, which held l, that seeks a list with S, of which there is none where N
 use mathlib.Core.Path.{_≡_}
 use mathlib.Core.List.{List}
 use Prim.Native.Nat.{ℕ, _<_, _≤_, _+_, _*_}
-use lib.ListN.{length, getD}
+use lib.ListN.{length, getD, take}
+use Rattle.machine.specs.declared.Found.{Found}
 use Rattle.machine.specs.declared.Pair.{Pair}
 use Rattle.machine.specs.declared.Prior.{Prior}
 use Rattle.machine.specs.declared.Sizes.{Sizes}
-use Rattle.machine.specs.Meaning.Tables.{entry, pairs, at, In, Ok}
+use Rattle.machine.specs.Meaning.Lists.{Leads}
+use Rattle.machine.specs.Meaning.Pick.{IsPicked}
+use Rattle.machine.specs.Meaning.Tables.{Tables, entry, pairs, at, In, Ok}
 use Rattle.machine.specs.Working.Maps.{Complete, Chosen}
+use Rattle.machine.specs.Working.Pairs.{stepIn}
 
 abbrev pub move : Sizes → List ℕ → List ℕ → Pair → ℕ → Pair
 move z next0 next1 p v = record { old = entry z next0 (p .old) v; new = entry z next1 (p .new) v }
@@ -66,3 +74,19 @@ Ones z d p = at z d p ≡ 1
 
 abbrev pub Ready : Sizes → List ℕ → List ℕ → List ℕ → Type 0
 Ready z next0 next1 d = Complete (move z next0 next1) (Ok z) (Ones z d) (In z) (at z d)
+
+pub record Good (t : Tables) : Type 0 where
+  pub nexts : Nexts (t .sizes) (t .old-next) (t .new-next)
+  pub outs : Outs (t .sizes) (t .old-out) (t .new-out)
+
+pub record MapFor (t : Tables) (Goal : Pair → Type 0) (d : List ℕ) : Type 0 where
+  pub map : Complete (stepIn t) (Ok (t .sizes)) Goal (In (t .sizes)) (at (t .sizes) d)
+
+abbrev pub ListTo : Sizes → List ℕ → List ℕ → List ℕ → Prior → Pair → List ℕ → Type 0
+ListTo z next0 next1 d s p l = IsPicked s (Leads (move z next0 next1) (Ok z) (Ones z d) p) l
+
+-- nothing where there is none or no room, or the list
+pub data Outcome (Absent : Type 0) (Sought : List ℕ → Type 0) (list list′ : List ℕ) : Found → Type 0 where
+  missing : Absent → list′ ≡ list → Outcome Absent Sought list list′ (Found.Refused 15)
+  short : (Absent → ⊥) → (l : List ℕ) → Sought l → length list < length l → list′ ≡ list → Outcome Absent Sought list list′ (Found.Refused 16)
+  steps : (Absent → ⊥) → (n : ℕ) → n ≤ length list → Sought (take n list′) → ((i : ℕ) → n ≤ i → getD list′ i 0 ≡ getD list i 0) → Outcome Absent Sought list list′ (Found.Steps n)

@@ -5,8 +5,7 @@ use Rattle.memory.specs.Meaning.Refusals.{Free}
 use Rattle.machine.specs.Meaning.Tables.{Tables, pairs}
 use Rattle.machine.specs.Meaning.Faults.{OutOfRange, TooShort, TablesFault, VectorsFault}
 use Rattle.machine.proofs.Tables.{entry-stays, few-old, few-new}
-use Rattle.places.specs.Working.{Few}
-use Rattle.seek.specs.Working.Steps.{Good}
+use Rattle.places.specs.Working.{Few, Good}
 
 module _ {t : Tables} {room : ℕ} (free : Free (VectorsFault t room)) where
   none : Free (TablesFault t room)

@@ -1,21 +1,19 @@
--- What the maps mean: alike and alignable pairs.
+-- What a search makes of flags: a map that is right.
 use mathlib.Core.Path.{_≡_}
 use mathlib.Core.List.{List}
 use Prim.Native.Nat.{ℕ, _≤_}
 use native.Mathlib.Omega.{arith}
-use lib.ListN.{getD}
 use Rattle.machine.specs.declared.Pair.{Pair}
 use Rattle.machine.specs.declared.Sizes.{Sizes}
-use Rattle.machine.specs.Meaning.Tables.{Tables, pairs, number, at, In, Ok, Flag, holds, fails, oldMachine, newMachine, AlikeIn}
+use Rattle.machine.specs.Meaning.Tables.{Tables, pairs, number, at, In, Ok, Flag, holds, fails, AlikeIn}
 use Rattle.machine.specs.Working.Pairs.{DiffersIn, stepIn}
 use Rattle.machine.proofs.Lists.{complete-there, still-first-there}
-use Rattle.machine.proofs.Telling.{alike-at-zero, zero-at-alike}
 use Rattle.flags.specs.Working.{Flagged, DiffersAt}
-use Rattle.places.specs.Working.{Ones}
+use Rattle.places.specs.Working.{Ones, Good, MapFor}
 use Rattle.search.specs.Working.{Searched}
 use Rattle.machine.proofs.Numbers.{number-in, pair-number}
-use Rattle.places.proofs.Places.{closed}
-use Rattle.seek.specs.Working.Steps.{Good, MapFor, MapOf}
+use Rattle.places.proofs.Right.{inside, alike-of-zero, zero-of-alike}
+use Rattle.seek.specs.Working.Steps.{MapOf, ToZeros}
 
 pub flag-one : {P : Type 0} {x : ℕ} → Flag P x → x ≤ 1
 flag-one (holds e p) = omega arith
@@ -33,15 +31,12 @@ module _ (t : Tables) (g : Good t) where
   abbrev z : Sizes
   z = t .sizes
 
-  pub inside : (p : Pair) (v : ℕ) → In z p → Ok z v → In z (stepIn t p v)
-  inside = closed z (g .nexts)
-
   -- a search from a list that was filled where P holds is a map for the set that P describes
   pub map-of : {P : ℕ → Type 0} {Goal : Pair → Type 0} {d d₀ d′ : List ℕ} {r : ℕ} → Flagged P (pairs z) d d₀ → ((p : Pair) → In z p → P (number z p) → Goal p) → ((p : Pair) → In z p → Goal p → P (number z p))
       → Searched z (t .old-next) (t .new-next) d₀ d′ r → MapOf t Goal d′ r
   map-of {P} {Goal} {d} {d₀} {d′} {r} f a b s = record {
-    complete = record { map = complete-there (stepIn t) (Ok z) (In z) inside (Ones z d₀) Goal there back (at z d′) (s .complete) };
-    first = still-first-there (stepIn t) (Ok z) (In z) inside (Ones z d₀) Goal there back r (s .first);
+    complete = record { map = complete-there (stepIn t) (Ok z) (In z) (inside t g) (Ones z d₀) Goal there back (at z d′) (s .complete) };
+    first = still-first-there (stepIn t) (Ok z) (In z) (inside t g) (Ones z d₀) Goal there back r (s .first);
   }
     where
       there : (p : Pair) → In z p → Ones z d₀ p → Goal p
@@ -54,11 +49,5 @@ module _ (t : Tables) (g : Good t) where
   map-traces f s = map-of f (λ p i o. rw (pair-number z p i) at o) (λ p i o. rw (pair-number z p i) o) s
 
   module _ {d : List ℕ} (m : MapFor t (DiffersIn t) d) where
-    pub alike-of-zero : (p : Pair) → In z p → at z d p ≡ 0 → AlikeIn t p
-    alike-of-zero = alike-at-zero (oldMachine t) (newMachine t) (Ok z) (In z) (at z d) (m .map)
-
-    pub zero-of-alike : (p : Pair) → In z p → AlikeIn t p → at z d p ≡ 0
-    zero-of-alike = zero-at-alike (oldMachine t) (newMachine t) (Ok z) (In z) (at z d) (m .map)
-
-    pub map-alike : {e e₀ e′ : List ℕ} {n : ℕ} → Flagged (λ q. getD d q 0 ≡ 0) (pairs z) e e₀ → Searched z (t .old-next) (t .new-next) e₀ e′ n → MapOf t (AlikeIn t) e′ n
-    map-alike f s = map-of f (λ p i o. alike-of-zero p i o) (λ p i o. zero-of-alike p i o) s
+    pub map-lists : {d′ : List ℕ} → ToZeros z (t .old-next) (t .new-next) d d′ → MapFor t (AlikeIn t) d′
+    map-lists w = map-of (w .flagged) (alike-of-zero t g m) (zero-of-alike t g m) (w .searched) .complete

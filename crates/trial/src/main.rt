@@ -188,14 +188,14 @@ fn ask_compare(old: Design, new: Design, n: [u16; NUMBERS], given: usize) {
     let mut out0 = [held; SLICE];
     let mut next1 = [held; SLICE];
     let mut out1 = [held; SLICE];
-    let mut depth = [n[0]; SLICE];
+    let mut depth = [held; SLICE];
     let mut reach = [n[0]; SLICE];
     let mut list = [held; SLICE];
     let next0 = slices::bytes(&mut next0, lengths.a);
     let out0 = slices::bytes(&mut out0, lengths.b);
     let next1 = slices::bytes(&mut next1, lengths.c);
     let out1 = slices::bytes(&mut out1, lengths.d);
-    let depth = slices::numbers(&mut depth, lengths.e);
+    let depth = slices::bytes(&mut depth, lengths.e);
     let reach = slices::numbers(&mut reach, lengths.f);
     let list = slices::bytes(&mut list, lengths.g);
     let judged = compare::compare(
@@ -307,10 +307,10 @@ fn lend(
     let lengths = lengths_of(n);
     let pair = pair_of(n);
     let held = designs::low(n[0]);
-    let mut depth = [n[0]; SLICE];
+    let mut depth = [held; SLICE];
     let mut reach = [n[0]; SLICE];
     let mut list = [held; SLICE];
-    let depth = slices::numbers(&mut depth, lengths.e);
+    let depth = slices::bytes(&mut depth, lengths.e);
     let reach = slices::numbers(&mut reach, lengths.f);
     let list = slices::bytes(&mut list, lengths.g);
     answer_tables(
@@ -381,7 +381,7 @@ fn answer_tables(
     out1: &[u8],
     sizes: Sizes,
     pair: Pair,
-    depth: &mut [u16],
+    depth: &mut [u8],
     reach: &mut [u16],
     list: &mut [u8],
 ) {

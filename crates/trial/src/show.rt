@@ -143,8 +143,8 @@ pub(crate) fn table(next: &[u8], out: &[u8]) {
 }
 
 // Shows both scratch slices.
-pub(crate) fn scratch(depth: &[u16], reach: &[u16]) {
-    numbers(depth);
+pub(crate) fn scratch(depth: &[u8], reach: &[u16]) {
+    bytes(depth, false);
     numbers(reach);
 }
 

@@ -27,10 +27,9 @@ use Rattle.machine.proofs.Numbers.{same-pair, pair-number, number-in, pairAt-in
 use Rattle.machine.proofs.Finding.{Test}
 use Rattle.machine.proofs.Verdict.{may-in, rounds-extend}
 use Rattle.machine.proofs.Ending.{unaligned, unaligned-falls, rounds-exist}
-use Rattle.places.specs.Working.{LowestBelow}
-use Rattle.seek.specs.Working.Steps.{Outcome, short, steps}
-use Rattle.seek.proofs.Sets.{inside}
-use Rattle.seek.proofs.Lists.{listed, reached}
+use Rattle.places.specs.Working.{LowestBelow, Outcome, short, steps}
+use Rattle.places.proofs.Right.{inside}
+use Rattle.finding.proofs.Lists.{listed, reached}
 use Rattle.marks.specs.Working.{Leading, Successors}
 use Rattle.marks.proofs.Moving.{After, after-none, after-more, run-under}
 use Rattle.verdict.specs.Working.Deciding.{SameIn, OpenAt, Reached, Follows, Added, Appended, added, full}

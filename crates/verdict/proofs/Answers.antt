@@ -21,10 +21,9 @@ use Rattle.machine.specs.Working.Pairs.{pairAt}
 use Rattle.machine.proofs.Numbers.{number-in, number-pair, pairAt-in, at-pair}
 use Rattle.machine.proofs.Pairs.{alike-alignable}
 use Rattle.machine.proofs.Verdict.{written-unique}
-use Rattle.places.specs.Working.{LowestBelow}
-use Rattle.seek.specs.Working.Steps.{Good, Outcome, missing, steps}
-use Rattle.seek.specs.Working.Steps as E
-use Rattle.seek.proofs.Sets.{inside}
+use Rattle.places.specs.Working.{LowestBelow, Good, Outcome, missing, steps}
+use Rattle.places.specs.Working as E
+use Rattle.places.proofs.Right.{inside}
 use Rattle.verdict.specs.declared.Verdict.{Verdict}
 use Rattle.verdict.specs.Meaning.Decision.{ShortList, short}
 use Rattle.verdict.specs.Working.Deciding.{SameIn, Mapped, Reached, Settled}

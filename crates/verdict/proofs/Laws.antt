@@ -25,7 +25,7 @@ use Rattle.machine.specs.Meaning.Faults.{VectorsFault}
 use Rattle.machine.specs.Meaning.Lent.{Lent, Left}
 use Rattle.table_faults.proofs.Refusals.{vectors-some}
 use Rattle.seek.proofs.Accepted.{good}
-use Rattle.seek.proofs.Sets.{inside}
+use Rattle.places.proofs.Right.{inside}
 use Rattle.verdict.specs.declared.Verdict.{Verdict}
 use Rattle.verdict.specs.declared.Judged.{Judged}
 use Rattle.verdict.specs.Meaning.Decision.{Decision, same, apart, verdictReply, stepsOf, Says, Decided, CountsBeside, short}

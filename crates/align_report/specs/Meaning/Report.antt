@@ -93,7 +93,7 @@ pub record Reports (o : Panel) (b : List ℕ) (n : TablesLent) (s : Lent) (list�
   pub counts : io.Counts r text′
   pub kept : length list′ ≡ s .written
 
--- "two table slices a design, S × V bytes each", "two scratch slices of one 16-bit number a pair": for designs at every limit
+-- "two table slices a design, S × V bytes each"; §8: scratch of "one byte a pair" and of one 16-bit number a pair: for designs at every limit
 abbrev pub ownTables : TablesLent
 ownTables = tablesLentOf 8192 8192 8192 8192
 

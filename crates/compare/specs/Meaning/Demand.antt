@@ -39,8 +39,9 @@ pub record EnoughTables (a b : Design) (n : TablesLent) : Type 0 where
   pub new-next : sizeOf b ≤ n .new-next
   pub new-out : sizeOf b ≤ n .new-out
 
--- "two scratch slices of one 16-bit number a pair", and a list slice no shorter than the answer; request §2: "demand 3 measures the list
--- slice on what is picked now". Of lists with VerdictList there is exactly one (laws written-exists and written-unique of machine)
+-- scratch of one byte a pair and of one 16-bit number a pair (§8: "12 and demand 3 are measured on the new lengths"), and a list slice no
+-- shorter than the answer; §2: "demand 3 measures the list slice on what is picked now". Of lists with VerdictList there is exactly one
+-- (laws written-exists and written-unique of machine)
 pub record Enough (a b : Design) (allowed : ℕ) (s : Lent) : Type 0 where
   pub scratch : pairs (sizesOf a b allowed) ≤ min (s .depth) (s .reach)
   pub list : (l : List ℕ) → VerdictList (machineOf a) (machineOf b) (Ok (sizesOf a b allowed)) (sizesOf a b allowed) l → length l ≤ s .written

@@ -17,16 +17,15 @@ returns c = record {
 
 write-list-requires : tie.Need-write-list-requires
 write-list-requires c κs =
-    let f = c .before .before .before .before .before .before .before .before .before .before .begin-pair .ensures .0 .none (c .before .before .before .if1 .left) in
-    let h = room-enough (free-call f) in
-    (good (free-call f), ((omega (arith, h, c .before .before .before .before .before .before .before .before .before .before .begin-pair .ensures .1 .depth .size), omega (arith, h, c .before .before .before .before .before .before .before .before .before .before .begin-pair .ensures .1 .reach .size)), free-in f))
+    let f = c .before .before .before .before .before .before .before .before .before .begin-pair .ensures .0 .none (c .before .before .if1 .left) in
+    (good (free-call f), (omega (arith, room-enough (free-call f), c .before .before .before .before .before .before .before .before .before .begin-pair .ensures .1 .reach .size), free-in f))
 
 returns-2 : tie.Need-returns-2
 returns-2 c =
-    let e = c .before .before .before .before .before .before .before .before .before .before .before .before .before .before .before .before .before .begin-pair .ensures .1 in
+    let e = c .before .before .before .before .before .before .before .before .before .before .before .before .before .before .begin-pair .ensures .1 in
     record {
-      keeps = keeps-outcome _ _ _ _ _ (c .before .before .before .before .before .before .before .before .before .before .before .before .before .before .before .before .before .begin-pair .ensures .0 .none (c .before .before .before .before .before .before .before .before .before .before .if1 .left)) (λ a b x y. picked-unique x y) (c .before .before .before .before .before .before .write-list .ensures .0) (e .written .size) (search needs) (e .written .zero);
-      tidy = record { depth = rw (e .depth .size) at (c .before .before .before .before .before .before .write-list .ensures .1 .0); reach = rw (e .reach .size) at (c .before .before .before .before .before .before .write-list .ensures .1 .1); written = search needs };
+      keeps = keeps-outcome _ _ _ _ _ (c .before .before .before .before .before .before .before .before .before .before .before .before .before .before .begin-pair .ensures .0 .none (c .before .before .before .before .before .before .before .if1 .left)) (λ a b x y. picked-unique x y) (c .before .before .before .before .write-list .ensures .0) (e .written .size) (search needs) (e .written .zero);
+      tidy = record { depth = e .depth; reach = rw (e .reach .size) at (c .before .before .before .before .write-list .ensures .1); written = search needs };
     }
 
 pub list-of-spec : {M : Type 1} → statement M

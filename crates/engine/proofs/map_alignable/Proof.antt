@@ -1,5 +1,11 @@
--- `map_alignable`: turned away with cleared slices, or what `mark_alignable` leaves.
+-- `map_alignable`: turned away with cleared slices, or the marks of the pairs for which the map to alike pairs holds a number.
+use mathlib.Core.Path.{_∙_}
+use native.Mathlib.Omega.{arith}
+use Rattle.memory.proofs.Filling.{written-end}
 use Rattle.opening.proofs.Clearing.{tidy-of}
+use Rattle.seek.proofs.Accepted.{good, room-enough}
+use Rattle.seek.proofs.Sets.{map-lists}
+use Rattle.engine.proofs.Marks.{fits-each, marks-alignable}
 use borrow.Author.Needs.{needs}
 use Rattle.engine.proofs.map_alignable.Statement.{statement}
 use Rattle.engine.proofs.map_alignable.Tie as tie
@@ -10,13 +16,27 @@ returns c = record {
   tidy = tidy-of (c .before .before .before .before .before .before .before .begin-map .ensures .1);
 }
 
-mark-alignable-requires : tie.Need-mark-alignable-requires
-mark-alignable-requires c κs =
-    let e = c .before .before .before .before .before .before .before .before .before .before .begin-map .ensures .1 in
-    (rw (e .depth .size, e .reach .size, e .written .size) (c .before .before .before .before .before .before .before .before .before .before .begin-map .ensures .0 .none (c .before .before .before .if1 .left)), e .written .zero)
+map-traces-requires : tie.Need-map-traces-requires
+map-traces-requires c κs = let f = c .before .before .before .before .before .before .before .before .begin-map .ensures .0 .none (c .before .if1 .left) in (good f, omega (arith, fits-each (room-enough f) .2, c .before .before .before .before .before .before .before .before .begin-map .ensures .1 .reach .size))
+
+map-lists-requires : tie.Need-map-lists-requires
+map-lists-requires c κs = let f = c .before .before .before .before .before .before .before .before .before .before .before .before .begin-map .ensures .0 .none (c .before .before .before .before .before .if1 .left) in record { nexts = good f .nexts; room = omega (arith, fits-each (room-enough f) .2, c .before .before .before .before .before .before .before .before .before .before .before .before .begin-map .ensures .1 .reach .size, c .before .before .before .map-traces .kept .1 .1 .1 .1 .1 .0) }
+
+total-requires : tie.Need-total-requires
+total-requires c κs = good (c .before .before .before .before .before .before .before .before .before .before .before .before .before .before .before .begin-map .ensures .0 .none (c .before .before .before .before .before .before .before .before .if1 .left)) .nexts .few
+
+mark-map-requires : tie.Need-mark-map-requires
+mark-map-requires c κs = let h = fits-each (room-enough (c .before .before .before .before .before .before .before .before .before .before .before .before .before .before .before .before .before .before .begin-map .ensures .0 .none (c .before .before .before .before .before .before .before .before .before .before .before .if1 .left))) in let e = c .before .before .before .before .before .before .before .before .before .before .before .before .before .before .before .before .before .before .begin-map .ensures .1 in (omega (arith, h .2, c .before .before .total .ensures .0, e .reach .size, c .before .before .before .before .before .before .before .before .before .map-traces .kept .1 .1 .1 .1 .1 .0, c .before .before .before .before .before .map-lists .kept .1 .1 .1 .0), (omega (arith, h .0, c .before .before .total .ensures .0, e .written .size), c .before .before .total .ensures .1))
 
 returns-2 : tie.Need-returns-2
-returns-2 c = let e = c .before .before .before .before .before .before .before .before .before .before .before .before .before .before .before .before .before .begin-map .ensures .1 in rw (e .depth .size, e .reach .size, e .written .size) at (c .before .before .before .before .before .before .mark-alignable .ensures)
+returns-2 c =
+    let f = c .before .before .before .before .before .before .before .before .before .before .before .before .before .before .before .before .before .before .before .before .before .before .before .begin-map .ensures .0 .none (c .before .before .before .before .before .before .before .before .before .before .before .before .before .before .before .before .if1 .left) in
+    let e = c .before .before .before .before .before .before .before .before .before .before .before .before .before .before .before .before .before .before .before .before .before .before .before .begin-map .ensures .1 in
+    let n = c .before .before .before .before .before .before .before .total .ensures .0 in
+    record {
+      keeps = (f, marks-alignable _ (good f) (map-lists _ (good f) (c .before .before .before .before .before .before .before .before .before .before .before .before .before .before .map-traces .ensures .complete) (c .before .before .before .before .before .before .before .before .before .before .map-lists .ensures .0)) (written-end n (c .before .before .before .before .mark-map .ensures .0)) (e .written .zero) (rw n at (c .before .before .before .before .mark-map .ensures .1 .0)));
+      tidy = record { depth = e .depth; reach = record { size = c .before .before .before .before .mark-map .ensures .1 .1 .size ∙ c .before .before .before .before .before .before .before .before .before .before .map-lists .kept .1 .1 .1 .0 ∙ c .before .before .before .before .before .before .before .before .before .before .before .before .before .before .map-traces .kept .1 .1 .1 .1 .1 .0 ∙ e .reach .size; zero = c .before .before .before .before .mark-map .ensures .1 .1 .zero }; written = search needs };
+    }
 
 pub map-alignable-spec : {M : Type 1} → statement M
 map-alignable-spec =
@@ -27,7 +47,10 @@ map-alignable-spec =
     (λ c. search needs)
     (λ c. search needs)
     returns
-    mark-alignable-requires
+    map-traces-requires
+    map-lists-requires
+    total-requires
+    mark-map-requires
     (λ c. search needs)
     (λ c. search needs)
     (λ c. search needs)

@@ -18,14 +18,14 @@ returns c = record {
 write-trace-requires : tie.Need-write-trace-requires
 write-trace-requires c κs =
     let f = c .before .before .before .before .before .before .before .before .before .begin-pair .ensures .0 .none (c .before .before .if1 .left) in
-    (good (free-call f), (omega (arith, room-enough (free-call f), c .before .before .before .before .before .before .before .before .before .begin-pair .ensures .1 .depth .size), free-in f))
+    (good (free-call f), (omega (arith, room-enough (free-call f), c .before .before .before .before .before .before .before .before .before .begin-pair .ensures .1 .reach .size), free-in f))
 
 returns-2 : tie.Need-returns-2
 returns-2 c =
     let e = c .before .before .before .before .before .before .before .before .before .before .before .before .before .before .begin-pair .ensures .1 in
     record {
       keeps = keeps-outcome _ _ _ _ _ (c .before .before .before .before .before .before .before .before .before .before .before .before .before .before .begin-pair .ensures .0 .none (c .before .before .before .before .before .before .before .if1 .left)) (λ a b x y. picked-unique x y) (c .before .before .before .before .write-trace .ensures .0) (e .written .size) (search needs) (e .written .zero);
-      tidy = record { depth = rw (e .depth .size) at (c .before .before .before .before .write-trace .ensures .1); reach = e .reach; written = search needs };
+      tidy = record { depth = e .depth; reach = rw (e .reach .size) at (c .before .before .before .before .write-trace .ensures .1); written = search needs };
     }
 
 pub trace-of-spec : {M : Type 1} → statement M

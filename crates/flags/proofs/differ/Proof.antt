@@ -4,7 +4,7 @@ use mathlib.Core.Path.{refl}
 use mathlib.Core.Logic.{⊎-elim}
 use native.Mathlib.Omega.{arith}
 use Rattle.machine.specs.Meaning.Tables.{pairs, holds, fails}
-use Rattle.flags.proofs.Flags.{flagged-start, flagged-more, flagged-end}
+use Rattle.memory.proofs.Filling.{written-start, written-more, written-end}
 use Rattle.flags.proofs.Showing.{differs-some, differs-none}
 use Rattle.flags.specs.Working.{Flagged, DiffersAt}
 use Rattle.flags.proofs.differ.Statement.{statement}
@@ -20,7 +20,7 @@ total-requires : tie.Need-total-requires Inv-loop μ-loop
 total-requires c κs = c .before .before .before .pre .0 .few
 
 loop-holds : tie.Need-loop-holds Inv-loop μ-loop
-loop-holds c = (omega arith, flagged-start _)
+loop-holds c = (omega arith, written-start _)
 
 pair-at-requires : tie.Need-pair-at-requires Inv-loop μ-loop
 pair-at-requires c κs = omega (arith, c .before .before .total .ensures .0, c .loop-test .taken)
@@ -56,8 +56,8 @@ loop-less c =
 loop-again : tie.Need-loop-again Inv-loop μ-loop
 loop-again c = (
   omega (arith, c .before .before .before .before .before .before .total .ensures .0, c .before .before .before .before .loop-test .taken),
-  ⊎-elim (λ w. rw (w .1) (flagged-more 1 (c .before .before .before .before .before .loop .inv .1) (omega (arith, c .before .before .before .before .before .before .before .before .before .before .pre .1, c .before .before .before .before .before .before .total .ensures .0, c .before .before .before .before .loop-test .taken)) (holds refl (rw (c .before .before .before .pair-at .ensures .0) at (differs-some (c .before .before .different-vector .ensures) (w .0 .taken))))))
-      (λ w. rw (w .1) (flagged-more 0 (c .before .before .before .before .before .loop .inv .1) (omega (arith, c .before .before .before .before .before .before .before .before .before .before .pre .1, c .before .before .before .before .before .before .total .ensures .0, c .before .before .before .before .loop-test .taken)) (fails refl (rw (c .before .before .before .pair-at .ensures .0) at (differs-none (c .before .before .different-vector .ensures) (w .0 .left))))))
+  ⊎-elim (λ w. rw (w .1) (written-more 1 (c .before .before .before .before .before .loop .inv .1) (omega (arith, c .before .before .before .before .before .before .before .before .before .before .pre .1, c .before .before .before .before .before .before .total .ensures .0, c .before .before .before .before .loop-test .taken)) (holds refl (rw (c .before .before .before .pair-at .ensures .0) at (differs-some (c .before .before .different-vector .ensures) (w .0 .taken))))))
+      (λ w. rw (w .1) (written-more 0 (c .before .before .before .before .before .loop .inv .1) (omega (arith, c .before .before .before .before .before .before .before .before .before .before .pre .1, c .before .before .before .before .before .before .total .ensures .0, c .before .before .before .before .loop-test .taken)) (fails refl (rw (c .before .before .before .pair-at .ensures .0) at (differs-none (c .before .before .different-vector .ensures) (w .0 .left))))))
       (c .if1 .came),
 )
 
@@ -66,7 +66,7 @@ same-length c = c .before .loop .inv .1 .long
 
 returns : tie.Need-returns Inv-loop μ-loop
 returns c =
-    flagged-end (omega (arith, c .before .before .total .ensures .0, c .loop-test .left, c .before .loop .inv .0)) (c .before .loop .inv .1)
+    written-end (omega (arith, c .before .before .total .ensures .0, c .loop-test .left, c .before .loop .inv .0)) (c .before .loop .inv .1)
 
 pub differ-spec : {M : Type 1} → statement M
 differ-spec =

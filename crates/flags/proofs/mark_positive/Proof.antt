@@ -7,7 +7,8 @@ use borrow.Author.Needs.{needs}
 use lib.ListN.{getD}
 use Rattle.machine.specs.Meaning.Tables.{holds, fails}
 use Rattle.numbers.specs.Meaning.Count.{count, countOf}
-use Rattle.flags.proofs.Flags.{flagged-start, flagged-more, flagged-end, ones-more, ones-none}
+use Rattle.memory.proofs.Filling.{written-start, written-more, written-end}
+use Rattle.flags.proofs.Flags.{ones-more, ones-none}
 use Rattle.flags.specs.Working.{Flagged}
 use Rattle.flags.proofs.mark_positive.Statement.{statement}
 use Rattle.flags.proofs.mark_positive.Tie as tie
@@ -20,13 +21,13 @@ abbrev μ-loop : tie.MeasureT-loop
 μ-loop map n mark₀ count₀ i₀ mark count i = n - i
 
 loop-holds : tie.Need-loop-holds Inv-loop μ-loop
-loop-holds c = (omega arith, omega arith, flagged-start _, ones-none (c .args .mark .now))
+loop-holds c = (omega arith, omega arith, written-start _, ones-none (c .args .mark .now))
 
 loop-again : tie.Need-loop-again Inv-loop μ-loop
 loop-again c =
     let l = c .before .before .before .loop .inv .2 .long in
-    ⊎-elim (λ w. rw (w .1, w .2) (omega arith, omega arith, flagged-more 0 (c .before .before .before .loop .inv .2) (omega (arith, c .before .before .before .before .pre .1 .0, c .before .before .loop-test .taken)) (fails refl (λ h. omega (arith, w .0 .taken))), omega (arith, c .before .before .before .loop .inv .3, ones-more (c .before .before .before .loop .mark) (c .before .before .before .loop .i) 0 (omega (arith, l, c .before .before .before .before .pre .1 .0, c .before .before .loop-test .taken)))))
-    (λ w. rw (w .1, w .2) (omega arith, omega arith, flagged-more 1 (c .before .before .before .loop .inv .2) (omega (arith, c .before .before .before .before .pre .1 .0, c .before .before .loop-test .taken)) (holds refl (omega (arith, w .0 .left))), omega (arith, c .before .before .before .loop .inv .3, ones-more (c .before .before .before .loop .mark) (c .before .before .before .loop .i) 1 (omega (arith, l, c .before .before .before .before .pre .1 .0, c .before .before .loop-test .taken)))))
+    ⊎-elim (λ w. rw (w .1, w .2) (omega arith, omega arith, written-more 0 (c .before .before .before .loop .inv .2) (omega (arith, c .before .before .before .before .pre .1 .0, c .before .before .loop-test .taken)) (fails refl (λ h. omega (arith, w .0 .taken))), omega (arith, c .before .before .before .loop .inv .3, ones-more (c .before .before .before .loop .mark) (c .before .before .before .loop .i) 0 (omega (arith, l, c .before .before .before .before .pre .1 .0, c .before .before .loop-test .taken)))))
+    (λ w. rw (w .1, w .2) (omega arith, omega arith, written-more 1 (c .before .before .before .loop .inv .2) (omega (arith, c .before .before .before .before .pre .1 .0, c .before .before .loop-test .taken)) (holds refl (omega (arith, w .0 .left))), omega (arith, c .before .before .before .loop .inv .3, ones-more (c .before .before .before .loop .mark) (c .before .before .before .loop .i) 1 (omega (arith, l, c .before .before .before .before .pre .1 .0, c .before .before .loop-test .taken)))))
     (c .if1 .came)
 
 same-length : tie.Need-same-length Inv-loop μ-loop
@@ -34,7 +35,7 @@ same-length c = c .before .loop .inv .2 .long
 
 returns : tie.Need-returns Inv-loop μ-loop
 returns c =
-    (flagged-end (omega arith) (c .before .loop .inv .2), c .before .loop .inv .3 ∙ ap (countOf 1 (c .before .loop .mark)) (omega arith))
+    (written-end (omega arith) (c .before .loop .inv .2), c .before .loop .inv .3 ∙ ap (countOf 1 (c .before .loop .mark)) (omega arith))
 
 pub mark-positive-spec : {M : Type 1} → statement M
 mark-positive-spec =

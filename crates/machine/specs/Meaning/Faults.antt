@@ -25,7 +25,8 @@ pub data OutOfRange (z : Sizes) : Type 0 where
   vectors-none : z .vectors ≡ 0 → OutOfRange z
   vectors-many : 64 < z .vectors → OutOfRange z
 
--- "two table slices a design, S × V bytes each; a mark slice of one byte a pair .. two scratch slices of one 16-bit number a pair"
+-- "two table slices a design, S × V bytes each; a mark slice of one byte a pair"; of scratch §8 says "one byte a pair; the other keeps its
+-- 16-bit numbers", and "12 and demand 3 are measured on the new lengths": room is the entries, one a pair, of the shortest of these slices
 pub data TooShort (t : Tables) (room : ℕ) : Type 0 where
   old-next : length (t .old-next) < t .sizes .old * t .sizes .vectors → TooShort t room
   old-out : length (t .old-out) < t .sizes .old * t .sizes .vectors → TooShort t room

@@ -1,5 +1,6 @@
 -- The slices that a call over two tables is lent besides them: both scratch slices, and the one that it writes its answer to.
---   Lent              their lengths at entry: depth and reach are the two scratch slices, written is the mark or list slice; lentOf makes it
+--   Lent              how many entries they have: depth, of bytes, and reach, of 16-bit numbers, are the two scratch slices, and written is the
+--                     mark or list slice, of bytes; lentOf makes it
 --   Left              what they hold at exit; leftOf makes it
 --   Tidy s e          scratch is all zero, and every slice is as long as it was
 --   Listed S list n   the first n bytes of the list slice have S, and all beyond them is 0
@@ -9,7 +10,8 @@ use Prim.Native.Nat.{ℕ, _≤_}
 use lib.ListN.{length, take}
 use Rattle.memory.specs.Meaning.Slices.{ZeroFrom, Cleared}
 
--- "both scratch slices; a map takes a mark slice besides, the others a list slice"
+-- "both scratch slices; a map takes a mark slice besides, the others a list slice"; §8: "one of the two scratch slices becomes one byte a pair;
+-- the other keeps its 16-bit numbers"
 pub record Lent : Type 0 where
   pub depth : ℕ
   pub reach : ℕ

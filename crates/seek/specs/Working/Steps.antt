@@ -1,45 +1,36 @@
--- What the helpers over two tables promise each other.
---   Good t                         the tables t are accepted
---   MapFor t G d                   the map d is right for the set G
---   MapOf t G d r                  and r is the number of the first round that adds nothing
+-- What is promised of maps over two tables.
+--   MapOf t G d r                  the map d is right for the set G, and r is the number of the first round that adds nothing
+--   ToZeros z n0 n1 d d′           d′ is the map of the lists to the pairs for which d holds 0
 --   Both t depth reach             depth is the map to pairs that show different outputs, and reach the map to alike pairs
---   ListTo z n0 n1 d s p l         l is the list picked from the pair p to a pair for which the map d holds 1, where s comes before it
---   Outcome Absent Sought l l′ r   what a helper that seeks a list leaves in the slice l′, which held l
+--   MapCounts z depth reach n k    n entries of depth are 0, and k of reach are not
 use mathlib.Core.Path.{_≡_}
 use mathlib.Core.List.{List}
-use Prim.Native.Nat.{ℕ, _<_, _≤_}
-use lib.ListN.{length, getD, take}
-use Rattle.machine.specs.declared.Found.{Found}
+use Prim.Native.Nat.{ℕ, _+_}
+use lib.ListN.{getD}
 use Rattle.machine.specs.declared.Pair.{Pair}
-use Rattle.machine.specs.declared.Prior.{Prior}
 use Rattle.machine.specs.declared.Sizes.{Sizes}
-use Rattle.machine.specs.Meaning.Lists.{Leads}
-use Rattle.machine.specs.Meaning.Pick.{IsPicked}
-use Rattle.machine.specs.Meaning.Tables.{Tables, at, In, Ok, AlikeIn}
-use Rattle.machine.specs.Working.Maps.{Complete, FirstStill}
+use Rattle.numbers.specs.Meaning.Count.{countOf}
+use Rattle.machine.specs.Meaning.Tables.{Tables, pairs, In, Ok, AlikeIn}
+use Rattle.machine.specs.Working.Maps.{FirstStill}
 use Rattle.machine.specs.Working.Pairs.{DiffersIn, stepIn}
-use Rattle.places.specs.Working.{move, Nexts, Outs, Ones}
-
-pub record Good (t : Tables) : Type 0 where
-  pub nexts : Nexts (t .sizes) (t .old-next) (t .new-next)
-  pub outs : Outs (t .sizes) (t .old-out) (t .new-out)
-
-pub record MapFor (t : Tables) (Goal : Pair → Type 0) (d : List ℕ) : Type 0 where
-  pub map : Complete (stepIn t) (Ok (t .sizes)) Goal (In (t .sizes)) (at (t .sizes) d)
+use Rattle.flags.specs.Working.{Flagged}
+use Rattle.places.specs.Working.{MapFor}
+use Rattle.search.specs.Working.{Searched}
 
 pub record MapOf (t : Tables) (Goal : Pair → Type 0) (d : List ℕ) (r : ℕ) : Type 0 where
   pub complete : MapFor t Goal d
   pub first : FirstStill (stepIn t) (Ok (t .sizes)) Goal (In (t .sizes)) r
 
+pub record ToZeros (z : Sizes) (next0 next1 d d′ : List ℕ) : Type 0 where
+  pub start : List ℕ
+  pub flagged : Flagged (λ q. getD d q 0 ≡ 0) (pairs z) d start
+  pub round : ℕ
+  pub searched : Searched z next0 next1 start d′ round
+
 pub record Both (t : Tables) (depth reach : List ℕ) : Type 0 where
   pub traces : MapFor t (DiffersIn t) depth
   pub alike : MapFor t (AlikeIn t) reach
 
-abbrev pub ListTo : Sizes → List ℕ → List ℕ → List ℕ → Prior → Pair → List ℕ → Type 0
-ListTo z next0 next1 d s p l = IsPicked s (Leads (move z next0 next1) (Ok z) (Ones z d) p) l
-
--- nothing where there is none or no room, or the list
-pub data Outcome (Absent : Type 0) (Sought : List ℕ → Type 0) (list list′ : List ℕ) : Found → Type 0 where
-  missing : Absent → list′ ≡ list → Outcome Absent Sought list list′ (Found.Refused 15)
-  short : (Absent → ⊥) → (l : List ℕ) → Sought l → length list < length l → list′ ≡ list → Outcome Absent Sought list list′ (Found.Refused 16)
-  steps : (Absent → ⊥) → (n : ℕ) → n ≤ length list → Sought (take n list′) → ((i : ℕ) → n ≤ i → getD list′ i 0 ≡ getD list i 0) → Outcome Absent Sought list list′ (Found.Steps n)
+pub record MapCounts (z : Sizes) (depth reach : List ℕ) (n k : ℕ) : Type 0 where
+  pub alike : n ≡ countOf 0 depth (pairs z)
+  pub alignable : k + countOf 0 reach (pairs z) ≡ pairs z

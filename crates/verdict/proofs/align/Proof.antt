@@ -6,7 +6,7 @@ use native.Mathlib.Omega.{arith}
 use lib.ListN.{length, take}
 use borrow.Author.Needs.{needs}
 use Rattle.machine.specs.Meaning.Tables.{bothTables}
-use Rattle.seek.proofs.Lists.{ready}
+use Rattle.finding.proofs.Lists.{ready}
 use Rattle.verdict.specs.Working.Deciding.{Reached}
 use Rattle.verdict.proofs.Aligning.{open-pairs, Aligning, leading-old, leading-new, aligning-start, aligned, found-under, no-room, added-fits, part-below, falls, aligning-more, its-part}
 use Rattle.verdict.proofs.align.Statement.{statement}

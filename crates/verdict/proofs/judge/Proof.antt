@@ -12,16 +12,17 @@ map-both-requires : tie.Need-map-both-requires
 map-both-requires c κs = enough ((rw (c .before .before .before .before .before .before .before .before .shorter .ensures) at (c .before .before .before .before .before .before .before .vectors-fault .ensures)) .none (c .before .before .if1 .left)) refl refl
 
 decide-requires : tie.Need-decide-requires
-decide-requires c κs = (mapped ((rw (c .before .before .before .before .before .before .before .before .before .before .before .before .before .before .before .before .shorter .ensures) at (c .before .before .before .before .before .before .before .before .before .before .before .before .before .before .before .vectors-fault .ensures)) .none (c .before .before .before .before .before .before .before .before .before .before .if1 .left)) (c .before .before .before .before .before .before .before .map-both .kept .1 .1 .1 .1 .1 .0) (c .before .before .before .before .before .before .before .map-both .kept .1 .1 .1 .1 .1 .1 .0) (c .before .before .before .before .before .before .before .map-both .ensures .0), (c .before .before .before .before .before .before .before .map-both .ensures .1, c .before .before .before .before .before .before .before .before .before .before .before .before .before .clear-bytes .ensures .zero))
-
-with-counts-requires : tie.Need-with-counts-requires
-with-counts-requires c κs = let m = mapped ((rw (c .before .before .before .before .before .before .before .before .before .before .before .before .before .before .before .before .before .before .before .before .before .shorter .ensures) at (c .before .before .before .before .before .before .before .before .before .before .before .before .before .before .before .before .before .before .before .before .vectors-fault .ensures)) .none (c .before .before .before .before .before .before .before .before .before .before .before .before .before .before .before .if1 .left)) (c .before .before .before .before .before .before .before .before .before .before .before .before .map-both .kept .1 .1 .1 .1 .1 .0) (c .before .before .before .before .before .before .before .before .before .before .before .before .map-both .kept .1 .1 .1 .1 .1 .1 .0) (c .before .before .before .before .before .before .before .before .before .before .before .before .map-both .ensures .0) in (m .good .nexts .few, (m .depth-room, m .reach-room))
+decide-requires c κs = (mapped ((rw (c .before .before .before .before .before .before .before .before .before .before .before .before .before .before .before .before .shorter .ensures) at (c .before .before .before .before .before .before .before .before .before .before .before .before .before .before .before .vectors-fault .ensures)) .none (c .before .before .before .before .before .before .before .before .before .before .if1 .left)) (c .before .before .before .before .before .before .before .map-both .kept .1 .1 .1 .1 .1 .0) (c .before .before .before .before .before .before .before .map-both .kept .1 .1 .1 .1 .1 .1 .0) (c .before .before .before .before .before .before .before .map-both .ensures .0), (c .before .before .before .before .before .before .before .map-both .ensures .1 .0, c .before .before .before .before .before .before .before .before .before .before .before .before .before .clear-bytes .ensures .zero))
 
 same-length-6 : tie.Need-same-length-6
 same-length-6 c = c .before .before .before .before .before .before .before .before .before .before .before .before .decide .kept .1 .1 .1 .1 .1 .1 .1 .1 .0 ∙ c .before .before .before .before .before .before .before .before .before .before .before .before .before .before .before .before .before .before .before .before .before .before .before .before .before .before .clear-bytes .ensures .size
 
 returns-2 : tie.Need-returns-2
-returns-2 c = judged _ _ ((rw (c .before .before .before .before .before .before .before .before .before .before .before .before .before .before .before .before .before .before .before .before .before .before .before .before .before .before .before .before .before .shorter .ensures) at (c .before .before .before .before .before .before .before .before .before .before .before .before .before .before .before .before .before .before .before .before .before .before .before .before .before .before .before .before .vectors-fault .ensures)) .none (c .before .before .before .before .before .before .before .before .before .before .before .before .before .before .before .before .before .before .before .before .before .before .before .if1 .left)) (c .before .before .before .before .before .before .before .before .before .before .before .before .decide .result) (c .before .before .before .before .before .before .before .before .before .before .before .before .decide .ensures) (c .before .before .before .before .before .before .before .before .before .before .before .before .before .before .before .before .before .before .before .before .map-both .ensures .0) (c .before .before .before .before .before .before .before .with-counts .ensures) (c .before .before .before .before .clear-scratch2 .ensures .0) (c .before .before .before .before .clear-scratch2 .ensures .1) (c .before .before .before .before .before .before .before .before .before .before .before .before .before .before .before .before .before .before .before .before .before .before .before .before .before .before .clear-bytes .ensures .size) (c .before .before .before .before .before .before .before .before .before .before .before .before .before .before .before .before .before .before .before .before .map-both .kept .1 .1 .1 .1 .1 .0) (c .before .before .before .before .before .before .before .before .before .before .before .before .before .before .before .before .before .before .before .before .map-both .kept .1 .1 .1 .1 .1 .1 .0) (c .before .before .before .before .before .before .before .before .before .before .before .before .decide .kept .1 .1 .1 .1 .1 .1 .1 .1 .0)
+returns-2 c =
+    let none = (rw (c .before .before .before .before .before .before .before .before .before .before .before .before .before .before .before .before .before .before .before .before .before .before .before .before .before .before .before .before .before .shorter .ensures) at (c .before .before .before .before .before .before .before .before .before .before .before .before .before .before .before .before .before .before .before .before .before .before .before .before .before .before .before .before .vectors-fault .ensures)) .none (c .before .before .before .before .before .before .before .before .before .before .before .before .before .before .before .before .before .before .before .before .before .before .before .if1 .left) in
+    let maps = c .before .before .before .before .before .before .before .before .before .before .before .before .before .before .before .before .before .before .before .before .map-both .ensures in
+    let kept = c .before .before .before .before .before .before .before .before .before .before .before .before .before .before .before .before .before .before .before .before .map-both .kept .1 .1 .1 .1 .1 in
+    judged _ _ none (c .before .before .before .before .before .before .before .before .before .before .before .before .decide .result) (c .before .before .before .before .before .before .before .before .before .before .before .before .decide .ensures) (maps .0) (maps .1 .1) (c .with-counts .ensures) (kept .0) (kept .1 .0) (c .before .before .before .before .before .clear-scratch2 .ensures .0) (c .before .before .before .before .before .clear-scratch2 .ensures .1) (c .before .before .before .before .before .before .before .before .before .before .before .before .decide .kept .1 .1 .1 .1 .1 .1 .1 .0) (c .before .before .before .before .before .before .before .before .before .before .before .before .before .before .before .before .before .before .before .before .before .before .before .before .before .before .clear-bytes .ensures .size) (c .before .before .before .before .before .before .before .before .before .before .before .before .decide .kept .1 .1 .1 .1 .1 .1 .1 .1 .0)
 
 pub judge-spec : {M : Type 1} → statement M
 judge-spec =
@@ -38,7 +39,7 @@ judge-spec =
     returns
     map-both-requires
     decide-requires
-    with-counts-requires
+    (λ c κs. search needs)
     (λ c κs. search needs)
     (λ c. search needs)
     (λ c. search needs)

@@ -5,9 +5,9 @@ use Prim.Native.Nat.{_≤_, _-_}
 use native.Mathlib.Omega.{arith}
 use borrow.Author.Needs.{needs}
 use Rattle.numbers.specs.Meaning.Count.{countOf}
-use Rattle.verdict.proofs.Tallies.{zeros-start, zero-more, other-more}
-use Rattle.verdict.proofs.zeros.Statement.{statement}
-use Rattle.verdict.proofs.zeros.Tie as tie
+use Rattle.seek.proofs.Tallies.{zeros-start, zero-more, other-more}
+use Rattle.seek.proofs.zeros.Statement.{statement}
+use Rattle.seek.proofs.zeros.Tie as tie
 
 abbrev Inv-loop : tie.InvT-loop
 Inv-loop map n count₀ i₀ count i = (i ≤ n) × (count ≤ i) × (count ≡ countOf 0 map i)

@@ -1,0 +1,68 @@
+// The trace or list of one pair, by a map that is right.
+ghost use mathlib.Core.Path.{_≡_};
+ghost use Prim.Native.Nat.{_≤_};
+ghost use lib.ListN.{length};
+ghost use Rattle.machine.specs.Meaning.Tables.{bothTables, pairs, at, In, AlikeIn, TraceIn};
+ghost use Rattle.machine.specs.Working.Pairs.{DiffersIn};
+ghost use Rattle.places.specs.Working.{Walk, Ready, Good, MapFor, ListTo, Outcome};
+use machine::Found;
+use machine::Pair;
+use machine::Prior;
+use machine::Sizes;
+
+// The trace of the pair p, by the map of the lists to pairs that show different outputs.
+pub fn find_trace(
+    old_next: &[u8],
+    old_out: &[u8],
+    new_next: &[u8],
+    new_out: &[u8],
+    sizes: Sizes,
+    p: Pair,
+    map: &[u16],
+    list: &mut [u8],
+) -> Found
+    requires { ⌜ Good (bothTables sizes (now «old_next») (now «old_out») (now «new_next») (now «new_out»)) ⌝ }
+    requires { ⌜ pairs sizes ≤ length (now map) ⌝ }
+    requires { ⌜ MapFor (bothTables sizes (now «old_next») (now «old_out») (now «new_next») (now «new_out»)) (DiffersIn (bothTables sizes (now «old_next») (now «old_out») (now «new_next») (now «new_out»))) (now map) ⌝ }
+    requires { ⌜ In sizes p ⌝ }
+    ensures { λ r. ⌜ Outcome (AlikeIn (bothTables sizes (now («old_next» .entry)) (now («old_out» .entry)) (now («new_next» .entry)) (now («new_out» .entry))) p) (TraceIn (bothTables sizes (now («old_next» .entry)) (now («old_out» .entry)) (now («new_next» .entry)) (now («new_out» .entry))) p) (now (list .entry)) (now (list .exit)) r ⌝ }
+{
+    let steps = places::map_at(sizes, map, p);
+    if steps == 0 {
+        return Found::Refused(15);
+    }
+    if list.len() < steps {
+        return Found::Refused(16);
+    }
+    let end = descent::descend(old_next, new_next, sizes, map, p, Prior::Start, list);
+    let prior = places::prior_at(list, steps - 1);
+    let v = flags::chosen_different(old_out, new_out, sizes, end, prior);
+    list[steps - 1] = places::narrow(v);
+    Found::Steps(steps)
+}
+
+// The list from the pair p to a pair for which the map holds 1; for p it holds one more than the steps of this list.
+pub fn find_list(
+    old_next: &[u8],
+    new_next: &[u8],
+    sizes: Sizes,
+    p: Pair,
+    prior: Prior,
+    map: &[u16],
+    list: &mut [u8],
+) -> Found
+    requires { ⌜ Walk sizes (now «old_next») (now «new_next») (now map) ⌝ }
+    requires { ⌜ Ready sizes (now «old_next») (now «new_next») (now map) ⌝ }
+    requires { ⌜ In sizes p ⌝ }
+    ensures { λ r. ⌜ Outcome (at sizes (now (map .entry)) p ≡ 0) (ListTo sizes (now («old_next» .entry)) (now («new_next» .entry)) (now (map .entry)) prior p) (now (list .entry)) (now (list .exit)) r ⌝ }
+{
+    let above = places::map_at(sizes, map, p);
+    if above == 0 {
+        return Found::Refused(15);
+    }
+    if list.len() < above - 1 {
+        return Found::Refused(16);
+    }
+    descent::descend(old_next, new_next, sizes, map, p, prior, list);
+    Found::Steps(above - 1)
+}
