@@ -15,7 +15,7 @@ HERE = Path(__file__).resolve().parent
 CELLS = 256
 CELLS_AT = 4 + 3 * 7 + 8
 NETS = {1: 1, 2: 3}  # of a flip-flop, in an image of each version
-TOO_LONG = {"image": 708, "memory": CELLS_AT + 3 * CELLS, "numbers": 17, "bytes": 40000}
+TOO_LONG = {"image": 708, "memory": CELLS_AT + 3 * CELLS, "numbers": 40, "bytes": 50000}
 
 
 class NoQuestion(Exception):
@@ -119,8 +119,12 @@ class Design:
             left.remove(order[-1])
         return order
 
-    def step(self, state, vector):
-        """The next state and the output."""
+    def watch_faults(self, watch):
+        """5 of a net that the design does not have; 21 of more than eight nets is looked for behind 10."""
+        return [5] if any(net >= 2 + self.inputs + self.latches + self.count for net in watch) else []
+
+    def step(self, state, vector, watch=()):
+        """The next state, the output and what the watched nets show: a dead cell 0."""
         known = {0: 0, 1: 1}
         for k in range(self.inputs):
             known[2 + k] = vector >> (self.inputs - 1 - k) & 1
@@ -138,11 +142,13 @@ class Design:
         # A flip-flop reads net 0 where it is cleared, its data net where it is enabled, and its own net otherwise.
         taken = [0 if value(clear) else data if value(enable) else 2 + self.inputs + k
                  for k, (data, enable, clear) in enumerate(self.flip_flops)]
-        return tuple(int("0" + "".join(str(value(net)) for net in nets), 2) for nets in (taken, self.shown[:self.outputs]))
+        first_cell = 2 + self.inputs + self.latches
+        probed = [net if net < first_cell or self.kept(net - first_cell, set()) else 0 for net in watch]
+        return tuple(int("0" + "".join(str(value(net)) for net in nets), 2) for nets in (taken, self.shown[:self.outputs], probed))
 
-    def table(self):
-        steps = [self.step(s, v) for s in range(2 ** self.latches) for v in range(2 ** self.inputs)]
-        return [s for s, _ in steps], [out for _, out in steps]
+    def table(self, watch):
+        steps = [self.step(s, v, watch) for s in range(2 ** self.latches) for v in range(2 ** self.inputs)]
+        return [list(column) for column in zip(*steps)]
 
     def image(self):
         version = 1 if all(nets[1:] == (1, 0) for nets in self.flip_flops) else 2
@@ -202,10 +208,10 @@ def reading(data):
 # Pairs of states of two machines.
 
 class Pairs:
-    """Two tables each, with the sizes and the allowed vectors: which pairs are alike and which can be aligned, and the lists that are picked."""
+    """Three tables each, with the sizes and the allowed vectors: which pairs are alike and which can be aligned, and the lists that are picked."""
 
     def __init__(self, tables, old, new, vectors, allowed):
-        self.next0, self.out0, self.next1, self.out1 = tables
+        self.next0, self.out0, self.seen0, self.next1, self.out1, self.seen1 = tables
         self.old, self.new, self.vectors, self.allowed = old, new, vectors, allowed
         self.all = [(s0, s1) for s0 in range(old) for s1 in range(new)]
         alike, self.round = {pair for pair in self.all if not self.telling(pair)}, 1
@@ -222,9 +228,9 @@ class Pairs:
         return self.next0[pair[0] * self.vectors + v], self.next1[pair[1] * self.vectors + v]
 
     def telling(self, pair):
-        """The vectors that show different outputs."""
+        """The vectors that show different outputs or watched values."""
         at0, at1 = pair[0] * self.vectors, pair[1] * self.vectors
-        return [v for v in self.allowed if self.out0[at0 + v] != self.out1[at1 + v]]
+        return [v for v in self.allowed if (self.out0[at0 + v], self.seen0[at0 + v]) != (self.out1[at1 + v], self.seen1[at1 + v])]
 
     def distances(self, found):
         steps = max(found.values(), default=0)
@@ -279,7 +285,7 @@ def tables_faults(lengths, sizes, mapping):
     s0, s1, v = sizes
     if not (1 <= s0 <= 128 and 1 <= s1 <= 128 and 1 <= v <= 64):
         return [11]
-    needed = [s0 * v, s0 * v, s1 * v, s1 * v, s0 * s1, s0 * s1, s0 * s1 if mapping else 0]
+    needed = [s0 * v] * 3 + [s1 * v] * 3 + [s0 * s1, s0 * s1, s0 * s1 if mapping else 0]
     return [12] if any(length < need for length, need in zip(lengths, needed)) else []
 
 
@@ -293,19 +299,19 @@ def allowed_vectors(parts, vectors):
 
 
 def on_tables(call, numbers, given, data):
-    lengths, sizes, pair = numbers[1:8], numbers[8:11], tuple(numbers[11:13])
-    if sum(lengths[:4]) != len(data):
+    lengths, sizes, pair = numbers[1:10], numbers[10:13], tuple(numbers[13:15])
+    if sum(lengths[:6]) != len(data):
         raise NoQuestion("the tables have other lengths")
-    ends = [sum(lengths[:k]) for k in range(5)]
-    tables = [data[ends[k]:ends[k + 1]] for k in range(4)]
-    said, left = answer_on_tables(call, lengths, sizes, pair, tables, numbers[13:max(given, 13)])
-    return said + short([0] * lengths[4]) + short([0] * lengths[5]) + short(filled(left, lengths[6]))
+    ends = [sum(lengths[:k]) for k in range(7)]
+    tables = [data[ends[k]:ends[k + 1]] for k in range(6)]
+    said, left = answer_on_tables(call, lengths, sizes, pair, tables, numbers[15:max(given, 15)])
+    return said + short([0] * lengths[6]) + short([0] * lengths[7]) + short(filled(left, lengths[8]))
 
 
 def answer_on_tables(call, lengths, sizes, pair, tables, parts):
     nothing = " alike 0 alignable 0" if call == "judge" else ""
     faults = tables_faults(lengths, sizes, call.startswith("map"))
-    if not faults and any(s >= sizes[side] for side in (0, 1) for s in tables[2 * side][:sizes[side] * sizes[2]]):
+    if not faults and any(s >= sizes[side] for side in (0, 1) for s in tables[3 * side][:sizes[side] * sizes[2]]):
         faults = [13]
     if not faults and call.endswith("_of") and (pair[0] >= sizes[0] or pair[1] >= sizes[1]):
         faults = [14]
@@ -327,7 +333,7 @@ def answer_on_tables(call, lengths, sizes, pair, tables, parts):
             return "refused 15", []
         steps = pairs.picked(pair, distance, None)
         said = f"steps {len(steps)}"
-    if len(steps) > lengths[6]:
+    if len(steps) > lengths[8]:
         return f"refused 16{nothing}", []
     counts = f" alike {len(pairs.alike)} alignable {len(pairs.to_align)}" if call == "judge" else ""
     return said + counts, steps
@@ -336,11 +342,19 @@ def answer_on_tables(call, lengths, sizes, pair, tables, parts):
 def on_designs(call, old, new, numbers, given):
     """tabulate, tabulate_both and compare."""
     designs = [old] if call == "tabulate" else [old, new]
-    lengths = numbers[1:{"tabulate": 3, "tabulate_both": 5, "compare": 8}[call]]
-    faults = sorted(number for design in designs for number in design.faults())
+    at = {"tabulate": 4, "tabulate_both": 7, "compare": 14}[call]
+    lengths = numbers[1:{"tabulate": 4, "tabulate_both": 7, "compare": 10}[call]]
+    if call == "tabulate":
+        watches = [numbers[at:given]]
+    else:
+        end = at + 1 + numbers[at]
+        watches = [numbers[at + 1:end], numbers[end:given]]
+    faults = sorted(number for design, watch in zip(designs, watches) for number in design.faults() + design.watch_faults(watch))
     if not faults and len(designs) > 1 and (old.inputs, old.outputs) != (new.inputs, new.outputs):
         faults = [10]
-    tables = [] if faults else [table for design in designs for table in design.table()]
+    if not faults and (len(set(map(len, watches))) > 1 or any(len(watch) > 8 for watch in watches)):
+        faults = [21]
+    tables = [] if faults else [table for design, watch in zip(designs, watches) for table in design.table(watch)]
     if not faults and any(length < len(table) for length, table in zip(lengths, tables)):
         faults = [12]
     states, steps = [2 ** min(design.latches, 9) for design in designs], []
@@ -350,12 +364,12 @@ def on_designs(call, old, new, numbers, given):
     if faults:
         said = f"refused {faults[0]}" + (" alike 0 alignable 0" if call == "compare" else "")
     elif call == "compare":
-        said, steps = answer_on_tables("judge", [len(table) for table in tables] + lengths[4:], states + [2 ** old.inputs], (0, 0), tables, numbers[8:max(given, 8)][:4])
+        said, steps = answer_on_tables("judge", [len(table) for table in tables] + lengths[6:], states + [2 ** old.inputs], (0, 0), tables, numbers[10:max(given, 10)][:4])
     if said.startswith("refused"):
-        tables = [[]] * 4
+        tables = [[]] * 6
     slices = [filled(table, length) for table, length in zip(tables, lengths)]
     if call == "compare":
-        slices += [[0] * lengths[4], [0] * lengths[5], filled(steps, lengths[6])]
+        slices += [[0] * lengths[6], [0] * lengths[7], filled(steps, lengths[8])]
     return said + "".join(short(one) for one in slices)
 
 
@@ -370,7 +384,7 @@ def on_one(call, design, numbers):
         state, vector = numbers[:2]
         if not faults and (state >= 2 ** design.latches or vector >= 2 ** design.inputs):
             faults = [14]
-        return f"refused {faults[0]}" if faults else "next %d output %d" % design.step(state, vector)
+        return f"refused {faults[0]}" if faults else "next %d output %d" % design.step(state, vector)[:2]
     image = [] if faults else design.image()
     if not faults and len(image) > numbers[1]:
         faults, image = [12], []
@@ -381,7 +395,7 @@ def on_one(call, design, numbers):
 DESIGNS = {"compare": 2, "tabulate_both": 2, "tabulate": 1, "write": 1, "clock": 1, "fault_of": 1, "levelize": 1}
 TAKE_NO_NUMBERS = ["fault_of", "levelize", "length_of", "read"]
 OTHERS = ["length_of", "read", "map_alike", "map_alignable", "trace_of", "list_of", "judge", "earlier_number"]
-ORDER = [*range(1, 10), 19, *range(10, 15), 20, 15, 16]
+ORDER = [*range(1, 10), 19, 10, 21, *range(11, 15), 20, 15, 16]
 
 
 def design_of(words):

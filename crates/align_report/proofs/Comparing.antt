@@ -1,6 +1,7 @@
 -- What the comparison leaves to print: designs that were accepted, their tables, and the pair and the counts of its answer.
 use Prim.Native.Nat.{ℕ, _≤_}
 use mathlib.Core.Path.{_≡_}
+use mathlib.Core.List.{[]}
 use native.Mathlib.Omega.{arith}
 use lib.ListN.{length}
 use Rattle.numbers.proofs.Order.{stable}
@@ -21,7 +22,7 @@ use Rattle.compare.specs.Meaning.Comparing.{TablesLent, TablesLeft, CompareFaul
 use Rattle.compare.proofs.Agreement.{states-few, vectors-few}
 use Rattle.report.specs.Working.Tracing.{Small}
 
-module _ {a b : Design} {allowed : ℕ} {n : TablesLent} {s : Lent} (free : Free (CompareFault a b allowed n s)) where
+module _ {a b : Design} {allowed : ℕ} {n : TablesLent} {s : Lent} (free : Free (CompareFault a b [] [] allowed n s)) where
   accepted : Accepted a × Accepted b
   accepted = (λ k f. free k (CompareFault.tabulating (BothFault.old (TableFault.design f))), λ k f. free k (CompareFault.tabulating (BothFault.new (TableFault.design f))))
 
@@ -29,12 +30,12 @@ module _ {a b : Design} {allowed : ℕ} {n : TablesLent} {s : Lent} (free : Free
   same-inputs = stable (a .inputs) (b .inputs) (λ d. free 10 (CompareFault.tabulating (BothFault.interface (InterfaceFault.other-inputs d))))
 
 -- an answer, by its case
-module _ {a b : Design} {allowed : ℕ} {n : TablesLent} {s : Lent} {t : TablesLeft} {e : Left} {r : Judged} (w : Compares a b allowed n s t e r) where
+module _ {a b : Design} {allowed : ℕ} {n : TablesLent} {s : Lent} {t : TablesLeft} {e : Left} {r : Judged} (w : Compares a b [] [] allowed n s t e r) where
   abbrev CountsHere : Type 0
-  CountsHere = CountsPairs (machineOf a) (machineOf b) (Ok (sizesOf a b allowed)) (sizesOf a b allowed) (r .alike) (r .alignable)
+  CountsHere = CountsPairs (machineOf a []) (machineOf b []) (Ok (sizesOf a b allowed)) (sizesOf a b allowed) (r .alike) (r .alignable)
 
   module _ {m : ℕ} (is : r .verdict ≡ Verdict.Same m) where
-    pub found-same : Free (CompareFault a b allowed n s) × Compared a b allowed t e (D.same m)
+    pub found-same : Free (CompareFault a b [] [] allowed n s) × Compared a b [] [] allowed t e (D.same m)
     found-same = rw is at (w .keeps)
 
     pub same-facts : (Accepted a × Accepted b) × CountsHere
@@ -44,7 +45,7 @@ module _ {a b : Design} {allowed : ℕ} {n : TablesLent} {s : Lent} {t : TablesL
     same-fits = found-same .1 .decided .fits
 
   module _ {p : Pair} {m : ℕ} (is : r .verdict ≡ Verdict.Apart p m) where
-    pub found-apart : Free (CompareFault a b allowed n s) × Compared a b allowed t e (D.apart p m)
+    pub found-apart : Free (CompareFault a b [] [] allowed n s) × Compared a b [] [] allowed t e (D.apart p m)
     found-apart = rw is at (w .keeps)
 
     pub apart-facts : (Accepted a × Accepted b) × CountsHere

@@ -8,14 +8,15 @@ use lib.ListN.{take}
 use types.Run.{OneOf}
 use denote.Enum.Declared.{tagOf}
 use Rattle.memory.specs.Meaning.Refusals.{Free, Keeps}
+use Rattle.memory.specs.Meaning.Tables.{Table}
 use Rattle.netlist.specs.declared.Design.{Design}
+use Rattle.netlist.specs.Meaning.Nets.{statesOf}
 use Rattle.machine.specs.declared.Pair.{Pair}
 use Rattle.machine.specs.declared.Sizes.{Sizes}
 use Rattle.machine.specs.Meaning.Lists.{Each}
-use Rattle.machine.specs.Meaning.Tables.{In, Ok, Tables, bothTables, oldMachine, newMachine}
-use Rattle.machine.specs.Working.Pairs.{SameSteps}
+use Rattle.machine.specs.Meaning.Tables.{In, Ok, Tables, tablesOf, bothTables, oldMachine, newMachine}
+use Rattle.machine.specs.Working.Pairs.{SameMachine}
 use Rattle.machine.proofs.Numbers.{same-pair}
-use Rattle.machine.proofs.Transfer.{same-back, same-closed}
 use Rattle.machine.specs.Meaning.Lent.{Lent, Left}
 use Rattle.verdict.specs.declared.Verdict.{Verdict}
 use Rattle.verdict.specs.declared.Judged.{Judged}
@@ -24,7 +25,8 @@ use Rattle.verdict.specs.Meaning.Decision as D
 use Rattle.verdict.proofs.Verdict as verdict
 use Rattle.compare.specs.Meaning.Designs.{machineOf, sizesOf}
 use Rattle.compare.specs.Meaning.Comparing.{TablesLent, TablesLeft, tablesLeftOf, CompareFault, Compared, ClearedAll, Compares}
-use Rattle.compare.proofs.Agreement.{tables-agree}
+use Rattle.compare.proofs.Agreement.{old-same, new-same}
+use Rattle.compare.proofs.Lengths.{designs-stay}
 use Rattle.report.specs.declared.Facts.{Facts}
 use Rattle.report.specs.declared.Side.the-variants.{Both}
 use Rattle.pieces.specs.Meaning.Pieces.{Printed}
@@ -36,11 +38,11 @@ use Rattle.align_report.proofs.Comparing.{same-inputs, found-same, foun
 
 module _ {a b : Design} {allowed : ℕ} {n : TablesLent} {s : Lent} {t : TablesLeft} {e : Left} {text′ : List ℕ} {r : ℕ} where
   -- neither Same nor Apart
-  pub prints-refused : {j : Judged} {k : ℕ} → Compares a b allowed n s t e j → OneOf (1 ∷ 2 ∷ []) (tagOf verdict.the-type (j .verdict)) → OneOf (0 ∷ 2 ∷ []) (tagOf verdict.the-type (j .verdict)) → k ≡ numberOf (verdictReply (j .verdict))
+  pub prints-refused : {j : Judged} {k : ℕ} → Compares a b [] [] allowed n s t e j → OneOf (1 ∷ 2 ∷ []) (tagOf verdict.the-type (j .verdict)) → OneOf (0 ∷ 2 ∷ []) (tagOf verdict.the-type (j .verdict)) → k ≡ numberOf (verdictReply (j .verdict))
       → Printed (refusalText Both k) text′ r → ReportsDesigns a b allowed n s (e .written) text′ r
   prints-refused {j} {k} c g h i q = go (j .verdict) (c .keeps) g h i
     where
-      go : (v : Verdict) → Keeps (CompareFault a b allowed n s) (Compared a b allowed t e) (ClearedAll t e) (verdictReply v) → OneOf (1 ∷ 2 ∷ []) (tagOf verdict.the-type v) → OneOf (0 ∷ 2 ∷ []) (tagOf verdict.the-type v) → k ≡ numberOf (verdictReply v)
+      go : (v : Verdict) → Keeps (CompareFault a b [] [] allowed n s) (Compared a b [] [] allowed t e) (ClearedAll t e) (verdictReply v) → OneOf (1 ∷ 2 ∷ []) (tagOf verdict.the-type v) → OneOf (0 ∷ 2 ∷ []) (tagOf verdict.the-type v) → k ≡ numberOf (verdictReply v)
           → ReportsDesigns a b allowed n s (e .written) text′ r
       go (Verdict.Same m) w (inl g) h i = absurd (omega arith)
       go (Verdict.Same m) w (inr g) h i = absurd (omega arith)
@@ -48,36 +50,45 @@ module _ {a b : Design} {allowed : ℕ} {n : TablesLent} {s : Lent} {t : TablesL
       go (Verdict.Apart p m) w g (inr h) i = absurd (omega arith)
       go (Verdict.Refused k) w g h i = record { answers = AnswersDesigns.refused k (w .0) (w .1 .list) (rw (← i) (q .is)); counts = q .counts; kept = c .tidy .written }
 
-  pub prints-same : {j : Judged} {m : ℕ} {f : Facts} → Compares a b allowed n s t e j → j .verdict ≡ Verdict.Same m → FactsOf a b allowed f
+  pub prints-same : {j : Judged} {m : ℕ} {f : Facts} → Compares a b [] [] allowed n s t e j → j .verdict ≡ Verdict.Same m → FactsOf a b allowed f
       → Printed (sameText f (take m (e .written))) text′ r → ReportsDesigns a b allowed n s (e .written) text′ r
   prints-same c is f q =
       let w = found-same c is in
       record { answers = AnswersDesigns.found-same (w .0) _ f _ (w .1 .decided) (q .is); counts = q .counts; kept = c .tidy .written }
 
--- tables print what the designs show
-module _ {a b : Design} {allowed : ℕ} {n : TablesLent} {s : Lent} {next0 out0 next1 out1 : List ℕ} {e : Left} {j : Judged} {p : Pair} {m : ℕ}
-    (c : Compares a b allowed n s (tablesLeftOf next0 out0 next1 out1) e j) (is : j .verdict ≡ Verdict.Apart p m) where
-  abbrev t : Tables
-  t = bothTables (sizesOf a b allowed) next0 out0 next1 out1
+-- tables print what the designs show; watched values are not printed
+module _ {a b : Design} {allowed : ℕ} {n : TablesLent} {s : Lent} (t0 t1 : Table) {e : Left} {j : Judged} {p : Pair} {m : ℕ}
+    (c : Compares a b [] [] allowed n s (tablesLeftOf t0 t1) e j) (is : j .verdict ≡ Verdict.Apart p m) where
+  abbrev shown : Sizes → Tables
+  shown z = bothTables z (t0 .next) (t0 .out) [] (t1 .next) (t1 .out) []
 
-  w : Free (CompareFault a b allowed n s) × Compared a b allowed (tablesLeftOf next0 out0 next1 out1) e (D.apart p m)
+  abbrev t : Tables
+  t = shown (sizesOf a b allowed)
+
+  abbrev whole : Tables
+  whole = tablesOf (sizesOf a b allowed) t0 t1
+
+  w : Free (CompareFault a b [] [] allowed n s) × Compared a b [] [] allowed (tablesLeftOf t0 t1) e (D.apart p m)
   w = found-apart c is
 
-  agree : SameSteps (sizesOf a b allowed) (oldMachine t) (newMachine t) (machineOf a) (machineOf b)
-  agree = tables-agree a b allowed next0 out0 next1 out1 (same-inputs (w .0)) (w .1 .old) (w .1 .new)
+  old : SameMachine (Ok (sizesOf a b allowed)) (statesOf a) (oldMachine whole) (machineOf a [])
+  old = old-same a b [] [] allowed t0 t1 (same-inputs (w .0)) (w .1 .old) (w .1 .new)
 
-  apart-there : (f : Facts) (l : List ℕ) → In (sizesOf a b allowed) p → Each (Ok (sizesOf a b allowed)) l → apartIn t f p l ≡ apartText (machineOf a) (machineOf b) f p l
+  new : SameMachine (Ok (sizesOf a b allowed)) (statesOf b) (newMachine whole) (machineOf b [])
+  new = new-same a b [] [] allowed t0 t1 (same-inputs (w .0)) (w .1 .old) (w .1 .new)
+
+  apart-there : (f : Facts) (l : List ℕ) → In (sizesOf a b allowed) p → Each (Ok (sizesOf a b allowed)) l → apartIn t f p l ≡ apartText (machineOf a []) (machineOf b []) f p l
   apart-there f l =
-      apart-same (oldMachine t) (newMachine t) (machineOf a) (machineOf b) (In (sizesOf a b allowed)) (Ok (sizesOf a b allowed))
-      (λ q v i o. ap₂ (λ (x y : ℕ). shownLine v x y) (agree .old .out (q .old) v (i .in-old) o) (agree .new .out (q .new) v (i .in-new) o))
-      (λ q v i o. same-pair (agree .old .next (q .old) v (i .in-old) o) (agree .new .next (q .new) v (i .in-new) o))
-      (same-closed (same-back agree)) f p l
+      apart-same (oldMachine t) (newMachine t) (machineOf a []) (machineOf b []) (In (sizesOf a b allowed)) (Ok (sizesOf a b allowed))
+      (λ q v i o. ap₂ (λ (x y : ℕ). shownLine v x y) (old .out (q .old) v (i .in-old) o) (new .out (q .new) v (i .in-new) o))
+      (λ q v i o. same-pair (old .next (q .old) v (i .in-old) o) (new .next (q .new) v (i .in-new) o))
+      (designs-stay a b [] [] allowed (Ok (sizesOf a b allowed))) f p l
 
   pub prints-apart : {z : Sizes} {f : Facts} {text′ : List ℕ} {r : ℕ} → z ≡ sizesOf a b allowed → FactsOf a b allowed f
-      → Printed (apartIn (bothTables z next0 out0 next1 out1) f p (take m (e .written))) text′ r → ReportsDesigns a b allowed n s (e .written) text′ r
+      → Printed (apartIn (shown z) f p (take m (e .written))) text′ r → ReportsDesigns a b allowed n s (e .written) text′ r
   prints-apart {z} {f} {text′} {r} same facts q =
       let k = w .1 .decided .sought in
-      let x = subst (λ (y : Sizes). take r text′ ≡ apartIn (bothTables y next0 out0 next1 out1) f p (take m (e .written))) same (q .is) in
+      let x = subst (λ (y : Sizes). take r text′ ≡ apartIn (shown y) f p (take m (e .written))) same (q .is) in
       record {
         answers = AnswersDesigns.found-apart (w .0) f facts p m (w .1 .decided) (x ∙ apart-there f (take m (e .written)) (k .lowest .inside) (k .trace .shortest .has .allowed));
         counts = q .counts;

@@ -1,7 +1,7 @@
 -- One input has one text, and one list slice beside it.
 use Prim.Native.Nat.{ℕ}
 use mathlib.Core.Path.{_≡_, sym, _∙_, ap}
-use mathlib.Core.List.{List}
+use mathlib.Core.List.{List, []}
 use lib.ListN.{length, take}
 use Rattle.memory.proofs.Orders.{first-unique}
 use Rattle.memory.proofs.Slices.{zero-unique}
@@ -38,8 +38,8 @@ facts-unique a b c f g x y =
     let r = counts-unique (x .alignable) (y .alignable) in
     λ j. record { inputs = i j; outputs = o j; «old_latches» = l j; «new_latches» = m j; pairs = p j; alike = q j; alignable = r j }
 
-pub closed : (a b : Design) (m : ℕ) → Closed (machineOf a) (machineOf b) (sizesOf a b m)
-closed a b m = designs-stay a b m (Ok (sizesOf a b m))
+pub closed : (a b : Design) (m : ℕ) → Closed (machineOf a []) (machineOf b []) (sizesOf a b m)
+closed a b m = designs-stay a b [] [] m (Ok (sizesOf a b m))
 
 -- one number, one text
 same-refusal : (x : Side) {n m : ℕ} {t u : List ℕ} → n ≡ m → t ≡ refusalText x n → u ≡ refusalText x m → t ≡ u
@@ -58,11 +58,11 @@ module _ (b : List ℕ) where
 
 module _ (l k : List ℕ) (long : length l ≡ length k) where
   module _ (a b : Design) (m : ℕ) (n : TablesLent) (s : Lent) where
-    same-decision : (x y : Decision) → Decided (machineOf a) (machineOf b) (Ok (sizesOf a b m)) (sizesOf a b m) l x → Decided (machineOf a) (machineOf b) (Ok (sizesOf a b m)) (sizesOf a b m) k y → x ≡ y
-    same-decision x y p q = decision-unique (machineOf a) (machineOf b) (sizesOf a b m) (closed a b m) l k long x y p q
+    same-decision : (x y : Decision) → Decided (machineOf a []) (machineOf b []) (Ok (sizesOf a b m)) (sizesOf a b m) l x → Decided (machineOf a []) (machineOf b []) (Ok (sizesOf a b m)) (sizesOf a b m) k y → x ≡ y
+    same-decision x y p q = decision-unique (machineOf a []) (machineOf b []) (sizesOf a b m) (closed a b m) l k long x y p q
 
-    same-list : (x y : Decision) → Decided (machineOf a) (machineOf b) (Ok (sizesOf a b m)) (sizesOf a b m) l x → Decided (machineOf a) (machineOf b) (Ok (sizesOf a b m)) (sizesOf a b m) k y → l ≡ k
-    same-list x y p q = list-unique (machineOf a) (machineOf b) (sizesOf a b m) (closed a b m) l k long x y p q
+    same-list : (x y : Decision) → Decided (machineOf a []) (machineOf b []) (Ok (sizesOf a b m)) (sizesOf a b m) l x → Decided (machineOf a []) (machineOf b []) (Ok (sizesOf a b m)) (sizesOf a b m) k y → l ≡ k
+    same-list x y p q = list-unique (machineOf a []) (machineOf b []) (sizesOf a b m) (closed a b m) l k long x y p q
 
     designs-unique : {t u : List ℕ} → AnswersDesigns a b m n s l t → AnswersDesigns a b m n s k u → (t ≡ u) × (l ≡ k)
     designs-unique (AnswersDesigns.refused i x z p) (AnswersDesigns.refused j y w q) = (same-refusal Both (first-unique x y) p q, zero-unique l k long z w)

@@ -5,8 +5,10 @@ mod numbers_of;
 
 ghost use mathlib.Core.Path.{_≡_};
 ghost use Prim.Native.Nat.{_+_, _*_, _≤_};
+ghost use mathlib.Core.List.{[]};
 ghost use lib.ListN.{length};
 ghost use Rattle.memory.specs.Meaning.Slices.{Zero};
+ghost use Rattle.memory.specs.Meaning.Tables.{tableOf, lengthsOf};
 ghost use Rattle.netlist.specs.Meaning.Faults.{Accepted};
 ghost use Rattle.machine.specs.Meaning.Lent.{lentOf};
 ghost use Rattle.machine.specs.Meaning.Tables.{Ok};
@@ -58,8 +60,10 @@ pub fn write_report(input: &[u8], panel: Panel, list: &mut [u8], text: &mut [u8]
 {
     let mut old_next = [0u8; ENTRIES];
     let mut old_out = [0u8; ENTRIES];
+    let mut old_seen = [0u8; ENTRIES];
     let mut new_next = [0u8; ENTRIES];
     let mut new_out = [0u8; ENTRIES];
+    let mut new_seen = [0u8; ENTRIES];
     let mut depth = [0u8; PAIRS];
     let mut reach = [0u16; PAIRS];
     memory::clear_bytes(list);
@@ -68,8 +72,10 @@ pub fn write_report(input: &[u8], panel: Panel, list: &mut [u8], text: &mut [u8]
         panel,
         &mut old_next,
         &mut old_out,
+        &mut old_seen,
         &mut new_next,
         &mut new_out,
+        &mut new_seen,
         &mut depth,
         &mut reach,
         list,
@@ -84,8 +90,10 @@ fn write_images(
     panel: Panel,
     old_next: &mut [u8],
     old_out: &mut [u8],
+    old_seen: &mut [u8],
     new_next: &mut [u8],
     new_out: &mut [u8],
+    new_seen: &mut [u8],
     depth: &mut [u8],
     reach: &mut [u16],
     list: &mut [u8],
@@ -93,7 +101,7 @@ fn write_images(
 ) -> usize
     requires { ⌜ 400 + 12 * length (now list) ≤ length (now text) ⌝ }
     requires { ⌜ Zero (now list) ⌝ }
-    ensures { λ r. ⌜ Reports panel (now (input .entry)) (tablesLentOf (length (now («old_next» .entry))) (length (now («old_out» .entry))) (length (now («new_next» .entry))) (length (now («new_out» .entry)))) (lentOf (length (now (depth .entry))) (length (now (reach .entry))) (length (now (list .entry)))) (now (list .exit)) (now (text .exit)) r ⌝ }
+    ensures { λ r. ⌜ Reports panel (now (input .entry)) (tablesLentOf (lengthsOf (tableOf (now («old_next» .entry)) (now («old_out» .entry)) (now («old_seen» .entry)))) (lengthsOf (tableOf (now («new_next» .entry)) (now («new_out» .entry)) (now («new_seen» .entry))))) (lentOf (length (now (depth .entry))) (length (now (reach .entry))) (length (now (list .entry)))) (now (list .exit)) (now (text .exit)) r ⌝ }
 {
     let measured = image::length_of(input);
     let Length::Bytes(n) = measured else {
@@ -118,8 +126,10 @@ fn write_images(
         allowed,
         old_next,
         old_out,
+        old_seen,
         new_next,
         new_out,
+        new_seen,
         depth,
         reach,
         list,
@@ -127,31 +137,38 @@ fn write_images(
     )
 }
 
-// The text on two designs, of whose vectors the number allows those that can occur.
+// The text on two designs, of whose vectors the number allows those that can occur. No net is watched.
 fn write_comparison(
     old: Design,
     new: Design,
     allowed: u64,
     old_next: &mut [u8],
     old_out: &mut [u8],
+    old_seen: &mut [u8],
     new_next: &mut [u8],
     new_out: &mut [u8],
+    new_seen: &mut [u8],
     depth: &mut [u8],
     reach: &mut [u16],
     list: &mut [u8],
     text: &mut [u8],
 ) -> usize
     requires { ⌜ 400 + 12 * length (now list) ≤ length (now text) ⌝ }
-    ensures { λ r. ⌜ ReportsDesigns old new allowed (tablesLentOf (length (now («old_next» .entry))) (length (now («old_out» .entry))) (length (now («new_next» .entry))) (length (now («new_out» .entry)))) (lentOf (length (now (depth .entry))) (length (now (reach .entry))) (length (now (list .entry)))) (now (list .exit)) (now (text .exit)) r ⌝ }
+    ensures { λ r. ⌜ ReportsDesigns old new allowed (tablesLentOf (lengthsOf (tableOf (now («old_next» .entry)) (now («old_out» .entry)) (now («old_seen» .entry)))) (lengthsOf (tableOf (now («new_next» .entry)) (now («new_out» .entry)) (now («new_seen» .entry))))) (lentOf (length (now (depth .entry))) (length (now (reach .entry))) (length (now (list .entry)))) (now (list .exit)) (now (text .exit)) r ⌝ }
 {
+    let nothing = [0u16; 0];
     let judged = compare::compare(
         old,
         new,
+        &nothing,
+        &nothing,
         allowed,
         old_next,
         old_out,
+        old_seen,
         new_next,
         new_out,
+        new_seen,
         depth,
         reach,
         list,
@@ -183,7 +200,7 @@ fn write_comparison(
 // What stands in front of the verdict on two designs.
 fn facts_of(old: Design, new: Design, allowed: u64, judged: Judged) -> Facts
     requires { ⌜ Accepted old × Accepted new ⌝ }
-    requires { ⌜ CountsPairs (machineOf old) (machineOf new) (Ok (sizesOf old new allowed)) (sizesOf old new allowed) (judged .alike) (judged .alignable) ⌝ }
+    requires { ⌜ CountsPairs (machineOf old []) (machineOf new []) (Ok (sizesOf old new allowed)) (sizesOf old new allowed) (judged .alike) (judged .alignable) ⌝ }
     ensures { λ r. ⌜ FactsOf old new allowed r ⌝ }
 {
     let sizes = sizes_of(old, new, allowed);

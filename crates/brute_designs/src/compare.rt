@@ -6,6 +6,8 @@ use crate::plain;
 use crate::plain::Plain;
 use crate::recursion;
 use crate::show;
+use crate::watch;
+use crate::watch::Nets;
 use image::Answer as Read;
 use image::Length;
 use simulator::Clocked;
@@ -32,11 +34,11 @@ pub const FLIPPED: usize = 7;
 
 pub const CUT: usize = 8;
 
-// How often each number from 0 to 19 was expected for each of these, and how often of a design or an image in version 2; then the
+// How often each number from 0 to 21 was expected for each of these, and how often of a design or an image in version 2; then the
 // disagreements.
-pub const DISAGREEMENTS: usize = 360;
+pub const DISAGREEMENTS: usize = 396;
 
-pub const PLACES: usize = 361;
+pub const PLACES: usize = 397;
 
 pub type Tally = [usize; PLACES];
 
@@ -51,7 +53,7 @@ pub struct Answer(pub usize, pub usize, pub usize, pub usize, pub usize);
 
 // Counts a comparison. A difference is printed with its design, if it is one of the first few; then the result is true.
 fn judge(what: usize, list: &Plain, found: Answer, expected: Answer, tally: &mut Tally) -> bool {
-    let place = 40 * (what % 9) + 2 * (expected.0 % 20);
+    let place = 44 * (what % 9) + 2 * (expected.0 % 22);
     tally[place] = std::num::wrapping_add_usize(tally[place], 1);
     if list[plain::VERSION] == 2 {
         tally[place + 1] = std::num::wrapping_add_usize(tally[place + 1], 1);
@@ -89,16 +91,12 @@ pub fn design(list: &Plain, tally: &mut Tally) -> usize {
     number
 }
 
-// Compares what tabulating a design answers and writes.
-fn tabulation(list: &Plain, number: usize, tally: &mut Tally) {
-    let mut next = [7u8; BYTES];
-    let mut out = [7u8; BYTES];
-    let r = simulator::tabulate(plain::design_of(list), &mut next, &mut out);
-    let place = wrong_entry(list, number, &next, &out);
-    let found = match r {
-        Tabulated::Table { states, vectors } => Answer(0, states, vectors, 0, place),
-        Tabulated::Refused(n) => Answer(n as usize, 0, 0, 0, place),
-    };
+// Compares what tabulating a design with watched nets answers and writes.
+fn tabulation(list: &Plain, own: usize, tally: &mut Tally) {
+    let n = watch::many(list);
+    let nets = watch::nets(list);
+    let number = watch::number(list, own, &nets, n);
+    let found = tabulated(list, nets, n, number);
     let mut expected = Answer(number, 0, 0, 0, BYTES);
     if number == 0 {
         expected.1 = power(list, plain::LATCHES);
@@ -107,20 +105,54 @@ fn tabulation(list: &Plain, number: usize, tally: &mut Tally) {
     judge(TABULATE, list, found, expected, tally);
 }
 
+// What tabulating a design with the first n watched nets answers, and how far the tables are what the recursion finds.
+fn tabulated(list: &Plain, nets: Nets, n: usize, number: usize) -> Answer {
+    if 9 < n {
+        return Answer(NO_ROOM, 0, 0, 0, 0);
+    }
+    let mut next = [7u8; BYTES];
+    let mut out = [7u8; BYTES];
+    let mut seen = [7u8; BYTES];
+    let d = plain::design_of(list);
+    let r = simulator::tabulate(d, &nets[..n], &mut next, &mut out, &mut seen);
+    let place = wrong_entry(list, &nets, n, number, &next, &out, &seen);
+    match r {
+        Tabulated::Table { states, vectors } => Answer(0, states, vectors, 0, place),
+        Tabulated::Refused(k) => Answer(k as usize, 0, 0, 0, place),
+    }
+}
+
 // How many numbers so many bits have as the size at a place says.
 fn power(list: &Plain, place: usize) -> usize {
     1 << (plain::at(list, place) % 8)
 }
 
-// The first entry of two tables that is not what the recursion finds, or their length: 0 beyond the entries, and all 0 beside a number.
-fn wrong_entry(list: &Plain, number: usize, next: &[u8; BYTES], out: &[u8; BYTES]) -> usize {
+// The first entry of three tables that is not what the recursion finds, or their length: 0 beyond the entries, and all 0 beside a number.
+fn wrong_entry(
+    list: &Plain,
+    nets: &Nets,
+    n: usize,
+    number: usize,
+    next: &[u8; BYTES],
+    out: &[u8; BYTES],
+    seen: &[u8; BYTES],
+) -> usize {
     let entries = entries(list, number);
+    let mut watched = *list;
+    if number == 0 {
+        watched = watch::shown(list, nets, n);
+    }
     for k in 0..BYTES {
         let mut step = Answer(0, 0, 0, 0, 0);
+        let mut value = 0;
         if k < entries {
             step = stepped(list, k);
+            value = recursion::word(&watched, k, plain::SHOWN, 1, n);
         }
-        if next[k] != (step.1 % 256) as u8 || out[k] != (step.2 % 256) as u8 {
+        if next[k] != (step.1 % 256) as u8
+            || out[k] != (step.2 % 256) as u8
+            || seen[k] != (value % 256) as u8
+        {
             return k;
         }
     }
@@ -175,18 +207,20 @@ fn clock(list: &Plain, state: usize, vector: usize, expected: Answer, tally: &mu
     judge(CLOCK, list, found, expected, tally);
 }
 
-// Compares what tabulating two designs, which have these numbers, answers and writes.
+// Compares what tabulating two designs, which have these numbers, answers and writes. Mostly as many nets of the one are watched as of the
+// other.
 pub fn both(old: &Plain, old_number: usize, new: &Plain, new_number: usize, tally: &mut Tally) {
-    let mut number = old_number;
-    if old_number == 0 || (new_number != 0 && new_number < old_number) {
-        number = new_number;
+    let old_nets = watch::nets(old);
+    let new_nets = watch::nets(new);
+    let old_many = watch::many(old);
+    let mut new_many = old_many;
+    if new[plain::COUNT] % 8 == 3 {
+        new_many = watch::many(new);
     }
-    if number == 0
-        && (old[plain::INPUTS] != new[plain::INPUTS] || old[plain::OUTPUTS] != new[plain::OUTPUTS])
-    {
-        number = 10;
-    }
-    let found = tabulated_both(old, new, number);
+    let old_first = watch::number(old, old_number, &old_nets, old_many);
+    let new_first = watch::number(new, new_number, &new_nets, new_many);
+    let number = pair_number(old, new, old_first, new_first, old_many == new_many);
+    let found = tabulated_both(old, new, old_nets, old_many, new_nets, new_many, number);
     let mut expected = Answer(number, 0, 0, 0, 2 * BYTES);
     if number == 0 {
         expected.1 = power(old, plain::LATCHES);
@@ -198,24 +232,67 @@ pub fn both(old: &Plain, old_number: usize, new: &Plain, new_number: usize, tall
     }
 }
 
+// The number of two designs of which each with its watched nets has a number, 0, 3, 5, 9 or 21: 10 and 21 of the pair come behind 9.
+fn pair_number(
+    old: &Plain,
+    new: &Plain,
+    old_first: usize,
+    new_first: usize,
+    as_many: bool,
+) -> usize {
+    let mut number = old_first;
+    if old_first == 0 || (new_first != 0 && new_first < old_first) {
+        number = new_first;
+    }
+    if number != 0 && number < 10 {
+        return number;
+    }
+    if old[plain::INPUTS] != new[plain::INPUTS] || old[plain::OUTPUTS] != new[plain::OUTPUTS] {
+        return 10;
+    }
+    if !as_many {
+        return 21;
+    }
+    number
+}
+
 // What tabulating two designs answers, and how far the tables of each are what the recursion finds.
-fn tabulated_both(old: &Plain, new: &Plain, number: usize) -> Answer {
-    let mut old_next = [7u8; BYTES];
-    let mut old_out = [7u8; BYTES];
-    let mut new_next = [7u8; BYTES];
-    let mut new_out = [7u8; BYTES];
+fn tabulated_both(
+    old: &Plain,
+    new: &Plain,
+    nets0: Nets,
+    many0: usize,
+    nets1: Nets,
+    many1: usize,
+    number: usize,
+) -> Answer {
+    if 9 < many0 {
+        return Answer(NO_ROOM, 0, 0, 0, 0);
+    }
+    if 9 < many1 {
+        return Answer(NO_ROOM, 0, 0, 0, 0);
+    }
+    let mut next0 = [7u8; BYTES];
+    let mut out0 = [7u8; BYTES];
+    let mut seen0 = [7u8; BYTES];
+    let mut next1 = [7u8; BYTES];
+    let mut out1 = [7u8; BYTES];
+    let mut seen1 = [7u8; BYTES];
     let r = simulator::tabulate_both(
         plain::design_of(old),
         plain::design_of(new),
-        &mut old_next,
-        &mut old_out,
-        &mut new_next,
-        &mut new_out,
+        &nets0[..many0],
+        &nets1[..many1],
+        &mut next0,
+        &mut out0,
+        &mut seen0,
+        &mut next1,
+        &mut out1,
+        &mut seen1,
     );
-    let place = std::num::wrapping_add_usize(
-        wrong_entry(old, number, &old_next, &old_out),
-        wrong_entry(new, number, &new_next, &new_out),
-    );
+    let right0 = wrong_entry(old, &nets0, many0, number, &next0, &out0, &seen0);
+    let right1 = wrong_entry(new, &nets1, many1, number, &next1, &out1, &seen1);
+    let place = std::num::wrapping_add_usize(right0, right1);
     match r {
         TabulatedBoth::Both { old, new, vectors } => Answer(0, old, new, vectors, place),
         TabulatedBoth::Refused(n) => Answer(n as usize, 0, 0, 0, place),

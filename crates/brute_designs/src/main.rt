@@ -7,6 +7,7 @@ mod images;
 mod plain;
 mod recursion;
 mod show;
+mod watch;
 
 ghost use Prim.Native.Nat.{_≤_};
 use crate::compare::Answer;

@@ -69,6 +69,39 @@ fn deeper(list: &Plain, net: usize, turns: usize) -> bool
     deeper(list, plain::at(list, place + 2), turns - 1)
 }
 
+// Whether the net of a cell is kept, in a design without a loop of kept cells: the recursion from a net that a flip-flop reads or an output
+// shows comes by it.
+pub fn kept(list: &Plain, net: usize) -> bool {
+    let count = plain::at(list, plain::COUNT);
+    for place in plain::DATA..plain::NUMBERS {
+        if plain::width(list, place) == 9 && passes(list, plain::at(list, place), net, count) {
+            return true;
+        }
+    }
+    false
+}
+
+// Whether the recursion from a net comes by another.
+fn passes(list: &Plain, net: usize, sought: usize, turns: usize) -> bool
+    requires { ⌜ net ≤ 200000 ⌝ }
+{
+    if net == sought {
+        return true;
+    }
+    let first = plain::first_cell(list);
+    if net < first {
+        return false;
+    }
+    if turns == 0 {
+        return false;
+    }
+    let place = plain::CELLS + 3 * (net - first);
+    if passes(list, plain::at(list, place + 1), sought, turns - 1) {
+        return true;
+    }
+    passes(list, plain::at(list, place + 2), sought, turns - 1)
+}
+
 // What n nets of a list spell at an entry of the tables, the first most significant. They stand so many places apart.
 pub fn word(list: &Plain, entry: usize, from: usize, apart: usize, n: usize) -> usize {
     let mut number = 0;

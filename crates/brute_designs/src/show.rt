@@ -11,17 +11,17 @@ use crate::plain::Plain;
 pub fn counts(tally: &Tally) {
     io::write_all(1, b"NUMBER: HOW OFTEN, AND HOW OFTEN IN VERSION 2\n");
     for row in 0..DISAGREEMENTS / 2 {
-        if row % 20 == 0 {
-            name(row / 20);
+        if row % 22 == 0 {
+            name(row / 22);
         }
         if tally[2 * row] != 0 {
             io::write_all(1, b"\n ");
-            spaced(row % 20);
+            spaced(row % 22);
             io::write_all(1, b":");
             spaced(tally[2 * row]);
             spaced(tally[2 * row + 1]);
         }
-        if row % 20 == 19 {
+        if row % 22 == 21 {
             io::write_all(1, b"\n");
         }
     }

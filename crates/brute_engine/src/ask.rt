@@ -68,14 +68,18 @@ fn ask_map(m: Machines, call: usize, mark: &mut [u8]) -> [usize; PLACES] {
     let mut reach = [9u16; SCRATCH];
     let old_next = m.old_next;
     let old_out = m.old_out;
+    let old_seen = m.old_seen;
     let new_next = m.new_next;
     let new_out = m.new_out;
+    let new_seen = m.new_seen;
     if call == MAP_ALIKE {
         let mapped = engine::map_alike(
             &old_next,
             &old_out,
+            &old_seen,
             &new_next,
             &new_out,
+            &new_seen,
             m.sizes,
             &mut depth,
             &mut reach,
@@ -86,8 +90,10 @@ fn ask_map(m: Machines, call: usize, mark: &mut [u8]) -> [usize; PLACES] {
     let mapped = engine::map_alignable(
         &old_next,
         &old_out,
+        &old_seen,
         &new_next,
         &new_out,
+        &new_seen,
         m.sizes,
         &mut depth,
         &mut reach,
@@ -102,14 +108,18 @@ fn ask_pair(m: Machines, call: usize, pair: Pair, list: &mut [u8]) -> [usize; PL
     let mut reach = [9u16; SCRATCH];
     let old_next = m.old_next;
     let old_out = m.old_out;
+    let old_seen = m.old_seen;
     let new_next = m.new_next;
     let new_out = m.new_out;
+    let new_seen = m.new_seen;
     if call == TRACE {
         let found = engine::trace_of(
             &old_next,
             &old_out,
+            &old_seen,
             &new_next,
             &new_out,
+            &new_seen,
             m.sizes,
             pair,
             &mut depth,
@@ -121,8 +131,10 @@ fn ask_pair(m: Machines, call: usize, pair: Pair, list: &mut [u8]) -> [usize; PL
     let found = engine::list_of(
         &old_next,
         &old_out,
+        &old_seen,
         &new_next,
         &new_out,
+        &new_seen,
         m.sizes,
         pair,
         &mut depth,
@@ -138,13 +150,17 @@ fn ask_verdict(m: Machines, list: &mut [u8]) -> [usize; PLACES] {
     let mut reach = [9u16; SCRATCH];
     let old_next = m.old_next;
     let old_out = m.old_out;
+    let old_seen = m.old_seen;
     let new_next = m.new_next;
     let new_out = m.new_out;
+    let new_seen = m.new_seen;
     let judged = verdict::judge(
         &old_next,
         &old_out,
+        &old_seen,
         &new_next,
         &new_out,
+        &new_seen,
         m.sizes,
         &mut depth,
         &mut reach,

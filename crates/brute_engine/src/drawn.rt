@@ -1,7 +1,8 @@
 // Pairs of machines of 3 or 4 states each and 1 to 3 vectors, some or all of them allowed, drawn by a fixed generator. At least half of the
-// outputs are 0, the others mostly 1 and 128. Two machines drawn apart rarely have alike pairs, so each size is drawn in three ways: both
-// apart, and the new one made from the old one by renaming its states, as it is or with one entry changed. Where the new machine has more
-// states than the old one, some old states get two names; where it has fewer, the next states that have no name are drawn.
+// outputs are 0, the others mostly 1 and 128; of the watched values at least seven of eight are 0. Two machines drawn apart rarely have
+// alike pairs, so each size is drawn in three ways: both apart, and the new one made from the old one by renaming its states, as it is or
+// with one entry changed. Where the new machine has more states than the old one, some old states get two names; where it has fewer, the
+// next states that have no name are drawn.
 ghost use Prim.Native.Nat.{_<_};
 use crate::compare::compare;
 use crate::tables::ENTRIES;
@@ -25,6 +26,7 @@ const CHANGED: usize = 2;
 struct Table {
     next: [u8; ENTRIES],
     out: [u8; ENTRIES],
+    seen: [u8; ENTRIES],
 }
 
 // Compares on all of them.
@@ -79,14 +81,18 @@ fn draw(sizes: Sizes, way: usize, seed: &mut u64) -> Machines {
     }
     let old_next = old.next;
     let old_out = old.out;
+    let old_seen = old.seen;
     let new_next = new.next;
     let new_out = new.out;
+    let new_seen = new.seen;
     Machines {
         sizes,
         old_next,
         old_out,
+        old_seen,
         new_next,
         new_out,
+        new_seen,
     }
 }
 
@@ -95,10 +101,12 @@ fn draw_table(seed: &mut u64, states: usize, zeros: usize) -> Table {
     let mut table = Table {
         next: [0u8; ENTRIES],
         out: [0u8; ENTRIES],
+        seen: [0u8; ENTRIES],
     };
     for i in 0..ENTRIES {
         table.next[i] = narrow(roll(seed, states));
         table.out[i] = output(seed, zeros);
+        table.seen[i] = output(seed, 7);
     }
     table
 }
@@ -126,6 +134,7 @@ fn rename(sizes: Sizes, shift: usize, old: Table, seed: &mut u64) -> Table {
         let from = entry_of(sizes, shift, i);
         table.next[i] = narrow(name(sizes, shift, wide(old.next[from]), seed));
         table.out[i] = old.out[from];
+        table.seen[i] = old.seen[from];
     }
     table
 }
@@ -166,12 +175,16 @@ fn name(sizes: Sizes, shift: usize, old: usize, seed: &mut u64) -> usize {
     second
 }
 
-// Draws one next state anew, or changes one output.
+// Draws one next state anew, or changes one output or one watched value.
 fn change(sizes: Sizes, table: Table, seed: &mut u64) -> Table {
     let mut t = table;
     let i = roll(seed, place(sizes.new, sizes.vectors, 0)) % ENTRIES;
     if roll(seed, 2) == 0 {
         t.next[i] = narrow(roll(seed, sizes.new));
+        return t;
+    }
+    if roll(seed, 2) == 0 {
+        t.seen[i] = narrow(wrapping_add_usize(wide(t.seen[i]), 1));
         return t;
     }
     t.out[i] = narrow(wrapping_add_usize(wide(t.out[i]), 1));

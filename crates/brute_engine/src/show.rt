@@ -6,6 +6,7 @@ use crate::ask::Question;
 use crate::ask::TRACE;
 use crate::ask::VERDICT;
 use crate::compare::ROOM;
+use crate::tables::ENTRIES;
 use crate::tables::Machines;
 use crate::tables::wide;
 use crate::tally::PLACES;
@@ -44,19 +45,23 @@ pub(crate) fn question(m: Machines, question: Question, room: usize) {
         b", BYTES LENT c\n  STATES d e, VECTORS f, ALLOWED g\n",
         &numbers,
     );
-    tables(m);
+    let old_next = m.old_next;
+    let old_out = m.old_out;
+    let old_seen = m.old_seen;
+    tables(b"  OLD\n", old_next, old_out, old_seen);
+    let new_next = m.new_next;
+    let new_out = m.new_out;
+    let new_seen = m.new_seen;
+    tables(b"  NEW\n", new_next, new_out, new_seen);
 }
 
-// Prints the tables of two machines.
-fn tables(m: Machines) {
-    let old_next = m.old_next;
-    bytes(b"  OLD NEXT", &old_next);
-    let old_out = m.old_out;
-    bytes(b"  OLD OUT ", &old_out);
-    let new_next = m.new_next;
-    bytes(b"  NEW NEXT", &new_next);
-    let new_out = m.new_out;
-    bytes(b"  NEW OUT ", &new_out);
+// Prints the tables of a machine.
+fn tables(words: &[u8], next: [u8; ENTRIES], out: [u8; ENTRIES], seen: [u8; ENTRIES]) {
+    let numbers = [0usize; PLACES];
+    print(words, &numbers);
+    bytes(b"    NEXT", &next);
+    bytes(b"    OUT ", &out);
+    bytes(b"    SEEN", &seen);
 }
 
 // Prints the call that was asked, of a pair if it is.

@@ -1,6 +1,7 @@
-// Every pair of machines that have 1 or 2 states each, the same 1 or 2 vectors and one output bit, under every number that allows some of
-// these vectors and no other. A pair of machines is a number of 19 bits: 4 for each table, an entry a bit, and 3 for the sizes; of these
-// numbers some have a bit that no machine of the sizes has.
+// Every pair of machines that have 1 or 2 states each, the same 1 or 2 vectors and one bit that is shown, under every number that allows some
+// of these vectors and no other. A pair of machines is a number of 19 bits: 4 for each table, an entry a bit, and 3 for the sizes; of these
+// numbers some have a bit that no machine of the sizes has. In turn the bit is shown as an output, as a watched value, and as an output under
+// vector 0 and a watched value under vector 1, which makes no difference to what is alike.
 use crate::compare::compare;
 use crate::tables::ENTRIES;
 use crate::tables::Machines;
@@ -60,10 +61,26 @@ fn make(sizes: Sizes, n: usize) -> Machines {
     Machines {
         sizes,
         old_next: table_of(n / 16),
-        old_out: table_of(n),
+        old_out: table_of(n & out_bits(sizes, n % 3)),
+        old_seen: table_of(n & !out_bits(sizes, n % 3)),
         new_next: table_of(n / 4096),
-        new_out: table_of(n / 256),
+        new_out: table_of(n / 256 & out_bits(sizes, n % 3)),
+        new_seen: table_of(n / 256 & !out_bits(sizes, n % 3)),
     }
+}
+
+// The entries that are outputs: all, none, or those under vector 0.
+fn out_bits(sizes: Sizes, way: usize) -> usize {
+    if way == 0 {
+        return 15;
+    }
+    if way == 1 {
+        return 0;
+    }
+    if sizes.vectors == 2 {
+        return 5;
+    }
+    15
 }
 
 // The table whose entries are the lowest four bits of a number.

@@ -1,4 +1,5 @@
-// Two machines under the same vectors, in the tables that the calls take: entry s × V + v of `next` and `out` is for state s and vector v.
+// Two machines under the same vectors, in the tables that the calls take: entry s × V + v of `next`, `out` and `seen` is for state s and
+// vector v.
 use machine::Pair;
 use machine::Sizes;
 
@@ -9,8 +10,10 @@ pub(crate) struct Machines {
     pub(crate) sizes: Sizes,
     pub(crate) old_next: [u8; ENTRIES],
     pub(crate) old_out: [u8; ENTRIES],
+    pub(crate) old_seen: [u8; ENTRIES],
     pub(crate) new_next: [u8; ENTRIES],
     pub(crate) new_out: [u8; ENTRIES],
+    pub(crate) new_seen: [u8; ENTRIES],
 }
 
 // Row × width + column, of rows up to 4, widths from 1 to 4 and columns up to 3.

@@ -5,39 +5,43 @@ use mathlib.Core.List.{List}
 use native.Mathlib.Omega.{arith}
 use native.Mathlib.Nat.{mod-lt, div-add-mod', div-lt-iff-lt-mul}
 use lib.Pow.{pow-pos, pow-mono}
-use lib.ListN.{length, getD}
+use Rattle.numbers.proofs.Order.{not-lt}
+use lib.ListN.{getD}
+use Rattle.memory.specs.Meaning.Tables.{Table, lengthsOf, shortestOf}
 use Rattle.netlist.specs.declared.Design.{Design}
-use Rattle.netlist.specs.Meaning.Nets.{statesOf, vectorsOf, nextState}
+use Rattle.netlist.specs.Meaning.Nets.{statesOf, vectorsOf}
 use Rattle.netlist.specs.Meaning.Faults.{Accepted}
 use Rattle.netlist.proofs.Numbers.{sound-of}
-use Rattle.simulator.specs.Meaning.Tables.{sizeOf, HoldsDesign}
+use Rattle.simulator.specs.Meaning.Tables.{sizeOf, HoldsEach, HoldsDesign}
 use Rattle.evaluator.proofs.Bounds.{next-state-lt}
-use Rattle.machine.specs.Meaning.Tables.{Ok, Tables, bothTables, pairs, oldMachine, newMachine}
+use Rattle.machine.specs.declared.Sizes.{Sizes}
+use Rattle.machine.specs.Meaning.Tables.{Ok, Tables, tablesOf, entry, pairs, tableMachine, oldMachine, newMachine}
+use Rattle.machine.proofs.Transfer.{same-steps}
 use Rattle.machine.specs.Working.Pairs.{SameMachine, SameSteps}
 use Rattle.machine.specs.Meaning.Faults.{OutOfRange, TooShort, LeadsOut, TablesFault}
 use Rattle.compare.specs.Meaning.Designs.{machineOf, sizesOf}
 
--- slices that hold a design, read as a table of v vectors
-module _ (d : Design) (v : ℕ) (next out : List ℕ) (e : vectorsOf d ≡ v) (h : HoldsDesign d next out) where
-  same-next : (s w : ℕ) → s < statesOf d → w < v → getD next (s * v + w) 0 ≡ nextState d s w
-  same-next s w q o = rw (← e) (h .next-entry s w q (rw e o))
+-- slices that hold a design, read as a table of as many vectors
+module _ (d : Design) (w : List ℕ) (z : Sizes) (t : Table) (e : vectorsOf d ≡ z .vectors) (h : HoldsDesign d w t) where
+  same-entry : {f : ℕ → ℕ → ℕ} {l : List ℕ} → HoldsEach d f l → (s v : ℕ) → s < statesOf d → v < z .vectors → entry z l s v ≡ f s v
+  same-entry g s v q o = rw (← e) (g .entry s v q (rw e o))
 
-  pub table-machine : (Ok : ℕ → Type 0) → ((w : ℕ) → Ok w → w < v)
-      → SameMachine Ok (statesOf d) (record { next = λ s w. getD next (s * v + w) 0; out = λ s w. getD out (s * v + w) 0 }) (machineOf d)
-  table-machine Ok below = record {
-    next = λ s w q o. same-next s w q (below w o);
-    out = λ s w q o. rw (← e) (h .out-entry s w q (rw e (below w o)));
-    stays = λ s w q o. rw (same-next s w q (below w o)) (next-state-lt d s w);
+  table-machine : SameMachine (Ok z) (statesOf d) (tableMachine z t) (machineOf d w)
+  table-machine = record {
+    next = λ s v q o. same-entry (h .next) s v q (o .below);
+    out = λ s v q o. same-entry (h .out) s v q (o .below);
+    seen = λ s v q o. same-entry (h .seen) s v q (o .below);
+    stays = λ s v q o. rw (same-entry (h .next) s v q (o .below)) (next-state-lt d s v);
   }
 
   -- every next state of the table is a state
-  pub table-stays : (i : ℕ) → i < statesOf d * v → getD next i 0 < statesOf d
+  pub table-stays : (i : ℕ) → i < statesOf d * z .vectors → getD (t .next) i 0 < statesOf d
   table-stays i q =
-      let p : 0 < v = rw (← e) (pow-pos (d .inputs)) in
-      let a : i / v < statesOf d = div-lt-iff-lt-mul p .1 q in
-      let b : i % v < v = mod-lt i p in
-      let f : i / v * v + i % v ≡ i = div-add-mod' i v in
-      rw (← f) (rw (same-next (i / v) (i % v) a b) (next-state-lt d (i / v) (i % v)))
+      let p : 0 < z .vectors = rw (← e) (pow-pos (d .inputs)) in
+      let a : i / z .vectors < statesOf d = div-lt-iff-lt-mul p .1 q in
+      let b : i % z .vectors < z .vectors = mod-lt i p in
+      let f : i / z .vectors * z .vectors + i % z .vectors ≡ i = div-add-mod' i (z .vectors) in
+      rw (← f) (rw (same-entry (h .next) (i / z .vectors) (i % z .vectors) a b) (next-state-lt d (i / z .vectors) (i % z .vectors)))
 
 pub states-some : (d : Design) → 0 < statesOf d
 states-some d = pow-pos (d .latches)
@@ -51,25 +55,26 @@ states-few {d} a = pow-mono {i = d .latches} {j = 7} (sound-of a .few-latches)
 pub vectors-few : {d : Design} → Accepted d → vectorsOf d ≤ 64
 vectors-few {d} a = pow-mono {i = d .inputs} {j = 6} (sound-of a .few-inputs)
 
--- two tables
-module _ (a b : Design) (allowed : ℕ) (next0 out0 next1 out1 : List ℕ) (same : a .inputs ≡ b .inputs) (h0 : HoldsDesign a next0 out0) (h1 : HoldsDesign b next1 out1) where
+module _ (a b : Design) (w0 w1 : List ℕ) (allowed : ℕ) (t0 t1 : Table) (same : a .inputs ≡ b .inputs) (h0 : HoldsDesign a w0 t0) (h1 : HoldsDesign b w1 t1) where
   abbrev Both : Tables
-  Both = bothTables (sizesOf a b allowed) next0 out0 next1 out1
+  Both = tablesOf (sizesOf a b allowed) t0 t1
 
   same-vectors : vectorsOf b ≡ vectorsOf a
   same-vectors = ap (λ (n : ℕ). 2 ^ n) (sym same)
 
-  pub tables-agree : SameSteps (sizesOf a b allowed) (oldMachine Both) (newMachine Both) (machineOf a) (machineOf b)
-  tables-agree = record {
-    old = table-machine a (vectorsOf a) next0 out0 refl h0 (Ok (sizesOf a b allowed)) (λ w o. o .below);
-    new = table-machine b (vectorsOf a) next1 out1 same-vectors h1 (Ok (sizesOf a b allowed)) (λ w o. o .below);
-  }
+  pub old-same : SameMachine (Ok (sizesOf a b allowed)) (statesOf a) (oldMachine Both) (machineOf a w0)
+  old-same = table-machine a w0 (sizesOf a b allowed) t0 refl h0
+
+  pub new-same : SameMachine (Ok (sizesOf a b allowed)) (statesOf b) (newMachine Both) (machineOf b w1)
+  new-same = table-machine b w1 (sizesOf a b allowed) t1 same-vectors h1
+
+  pub tables-agree : SameSteps (sizesOf a b allowed) (oldMachine Both) (newMachine Both) (machineOf a w0) (machineOf b w1)
+  tables-agree = same-steps old-same new-same
 
   -- of 11, 12 and 13 only short scratch can be found
-  pub tables-fault : (room : ℕ) → Accepted a → Accepted b
-      → sizeOf a ≤ length next0 → sizeOf a ≤ length out0 → sizeOf b ≤ length next1 → sizeOf b ≤ length out1
+  pub tables-fault : (room : ℕ) → Accepted a → Accepted b → sizeOf a ≤ shortestOf (lengthsOf t0) → sizeOf b ≤ shortestOf (lengthsOf t1)
       → (n : ℕ) → TablesFault Both room n → (n ≡ 12) × (room < pairs (sizesOf a b allowed))
-  tables-fault room x y p q r s n f = go f
+  tables-fault room x y p q n f = go f
     where
       size-b : sizeOf b ≡ statesOf b * vectorsOf a
       size-b = ap (λ (n : ℕ). statesOf b * n) same-vectors
@@ -83,14 +88,12 @@ module _ (a b : Design) (allowed : ℕ) (next0 out0 next1 out1 : List ℕ) (same
       no-range (OutOfRange.vectors-many z) = omega (arith, vectors-few x)
 
       short : TooShort Both room → room < pairs (sizesOf a b allowed)
-      short (TooShort.old-next z) = absurd (omega (arith, z, p))
-      short (TooShort.old-out z) = absurd (omega (arith, z, q))
-      short (TooShort.new-next z) = absurd (omega (arith, z, r, size-b))
-      short (TooShort.new-out z) = absurd (omega (arith, z, s, size-b))
+      short (TooShort.old z) = absurd (not-lt p z)
+      short (TooShort.new z) = absurd (not-lt (rw (← size-b) q) z)
       short (TooShort.lent z) = z
 
       go : {n : ℕ} → TablesFault Both room n → (n ≡ 12) × (room < pairs (sizesOf a b allowed))
       go (TablesFault.range z) = absurd (no-range z)
       go (TablesFault.short z) = (refl, short z)
-      go (TablesFault.old-leads (LeadsOut.leads i l z)) = absurd (omega (arith, z, table-stays a (vectorsOf a) next0 out0 refl h0 i l))
-      go (TablesFault.new-leads (LeadsOut.leads i l z)) = absurd (omega (arith, z, table-stays b (vectorsOf a) next1 out1 same-vectors h1 i l))
+      go (TablesFault.old-leads (LeadsOut.leads i l z)) = absurd (omega (arith, z, table-stays a w0 (sizesOf a b allowed) t0 refl h0 i l))
+      go (TablesFault.new-leads (LeadsOut.leads i l z)) = absurd (omega (arith, z, table-stays b w1 (sizesOf a b allowed) t1 same-vectors h1 i l))

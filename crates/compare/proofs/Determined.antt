@@ -1,6 +1,7 @@
 -- No two answers, or slices left, meet one promise of `compare`; and entries beyond the sizes of its designs count for nothing.
 use Prim.Native.Nat.{ℕ, _<_, min}
 use mathlib.Core.Path.{_≡_, sym, _∙_, subst}
+use mathlib.Core.List.{List}
 use lib.ListN.{length}
 use Rattle.memory.specs.Meaning.Refusals.{Free}
 use Rattle.memory.proofs.Refusals.{kept-unique, keeps-map}
@@ -8,7 +9,8 @@ use Rattle.memory.proofs.Slices.{zero-unique}
 use Rattle.netlist.specs.declared.Design.{Design}
 use Rattle.netlist.specs.Meaning.Faults.{SameDesign}
 use Rattle.netlist.proofs.Same.{same-sym, same-next, same-outputs, same-states, same-vectors}
-use Rattle.simulator.proofs.Determined.{Slices, holds-unique, cleared-unique}
+use Rattle.netlist.proofs.Watched.{same-watched}
+use Rattle.simulator.proofs.Determined.{holds-unique, cleared-unique}
 use Rattle.simulator.proofs.Same.{same-holds, both-fault}
 use Rattle.machine.specs.declared.Sizes.{Sizes}
 use Rattle.machine.specs.Meaning.Machine.{Machine}
@@ -24,73 +26,67 @@ use Rattle.compare.specs.Meaning.Designs.{machineOf, sizesOf}
 use Rattle.compare.specs.Meaning.Comparing.{TablesLent, TablesLeft, CompareFault, Compared, ClearedAll, TablesKept, Compares}
 use Rattle.compare.proofs.Lengths.{designs-stay}
 
-module _ (a b : Design) (allowed : ℕ) (n : TablesLent) (s : Lent) (t u : TablesLeft) (e f : Left) (i : TablesKept n t) (j : TablesKept n u) (x : Tidy s e) (y : Tidy s f) where
+module _ (a b : Design) (w0 w1 : List ℕ) (allowed : ℕ) (n : TablesLent) (s : Lent) (t u : TablesLeft) (e f : Left) (i : TablesKept n t) (j : TablesKept n u) (x : Tidy s e) (y : Tidy s f) where
   long : length (e .written) ≡ length (f .written)
   long = x .written ∙ sym (y .written)
 
-  abbrev old : TablesLeft → Slices
-  old w = (w .old-next, w .old-out)
-
-  abbrev new : TablesLeft → Slices
-  new w = (w .new-next, w .new-out)
-
-  same-tables : old t ≡ old u → new t ≡ new u → t ≡ u
-  same-tables p q = λ k. record { old-next = p k .0; old-out = p k .1; new-next = q k .0; new-out = q k .1 }
+  same-tables : t .old ≡ u .old → t .new ≡ u .new → t ≡ u
+  same-tables p q = λ k. record { old = p k; new = q k }
 
   same-all : t ≡ u → e .written ≡ f .written → _≡_ {A = TablesLeft × Left} (t, e) (u, f)
   same-all p w = let q = same-left s e f x y w in λ k. (p k, q k)
 
-  answers-unique : Free (CompareFault a b allowed n s) → (p q : Decision) → Compared a b allowed t e p → Compared a b allowed u f q → (p ≡ q) × (_≡_ {A = TablesLeft × Left} (t, e) (u, f))
+  answers-unique : Free (CompareFault a b w0 w1 allowed n s) → (p q : Decision) → Compared a b w0 w1 allowed t e p → Compared a b w0 w1 allowed u f q → (p ≡ q) × (_≡_ {A = TablesLeft × Left} (t, e) (u, f))
   answers-unique none p q g h = (
-    decision-unique (machineOf a) (machineOf b) (sizesOf a b allowed) closed (e .written) (f .written) long p q (g .decided) (h .decided),
-    same-all (same-tables (holds-unique (old t) (old u) (i .old-next ∙ sym (j .old-next)) (i .old-out ∙ sym (j .old-out)) a (g .old) (h .old)) (holds-unique (new t) (new u) (i .new-next ∙ sym (j .new-next)) (i .new-out ∙ sym (j .new-out)) b (g .new) (h .new)))
-        (list-unique (machineOf a) (machineOf b) (sizesOf a b allowed) closed (e .written) (f .written) long p q (g .decided) (h .decided)),
+    decision-unique (machineOf a w0) (machineOf b w1) (sizesOf a b allowed) closed (e .written) (f .written) long p q (g .decided) (h .decided),
+    same-all (same-tables (holds-unique (n .old) (t .old) (u .old) (i .old) (j .old) a w0 (g .old) (h .old)) (holds-unique (n .new) (t .new) (u .new) (i .new) (j .new) b w1 (g .new) (h .new)))
+        (list-unique (machineOf a w0) (machineOf b w1) (sizesOf a b allowed) closed (e .written) (f .written) long p q (g .decided) (h .decided)),
   )
     where
-      closed : Closed (machineOf a) (machineOf b) (sizesOf a b allowed)
-      closed = designs-stay a b allowed (Ok (sizesOf a b allowed))
+      closed : Closed (machineOf a w0) (machineOf b w1) (sizesOf a b allowed)
+      closed = designs-stay a b w0 w1 allowed (Ok (sizesOf a b allowed))
 
   refusals-unique : ClearedAll t e → ClearedAll u f → _≡_ {A = TablesLeft × Left} (t, e) (u, f)
   refusals-unique g h =
-      same-all (same-tables (cleared-unique (old t) (old u) (i .old-next ∙ sym (j .old-next)) (i .old-out ∙ sym (j .old-out)) (g .old) (h .old)) (cleared-unique (new t) (new u) (i .new-next ∙ sym (j .new-next)) (i .new-out ∙ sym (j .new-out)) (g .new) (h .new)))
+      same-all (same-tables (cleared-unique (n .old) (t .old) (u .old) (i .old) (j .old) (g .old) (h .old)) (cleared-unique (n .new) (t .new) (u .new) (i .new) (j .new) (g .new) (h .new)))
       (zero-unique (e .written) (f .written) long (g .list) (h .list))
 
 -- the answer with its counts, the tables and every other slice are determined by the designs and the lengths of the slices
-pub compares-unique : (a b : Design) (allowed : ℕ) (n : TablesLent) (s : Lent) (t u : TablesLeft) (e f : Left) (q r : Judged)
-    → Compares a b allowed n s t e q → Compares a b allowed n s u f r → (q ≡ r) × (_≡_ {A = TablesLeft × Left} (t, e) (u, f))
-compares-unique a b allowed n s t u e f q r g h =
-    let w = kept-unique (CompareFault a b allowed n s) (λ (l : TablesLeft × Left). Compared a b allowed (l .0) (l .1)) (λ (l : TablesLeft × Left). ClearedAll (l .0) (l .1)) (t, e) (u, f)
-    (answers-unique a b allowed n s t u e f (g .tables) (h .tables) (g .tidy) (h .tidy)) (refusals-unique a b allowed n s t u e f (g .tables) (h .tables) (g .tidy) (h .tidy))
+pub compares-unique : (a b : Design) (w0 w1 : List ℕ) (allowed : ℕ) (n : TablesLent) (s : Lent) (t u : TablesLeft) (e f : Left) (q r : Judged)
+    → Compares a b w0 w1 allowed n s t e q → Compares a b w0 w1 allowed n s u f r → (q ≡ r) × (_≡_ {A = TablesLeft × Left} (t, e) (u, f))
+compares-unique a b w0 w1 allowed n s t u e f q r g h =
+    let w = kept-unique (CompareFault a b w0 w1 allowed n s) (λ (l : TablesLeft × Left). Compared a b w0 w1 allowed (l .0) (l .1)) (λ (l : TablesLeft × Left). ClearedAll (l .0) (l .1)) (t, e) (u, f)
+    (answers-unique a b w0 w1 allowed n s t u e f (g .tables) (h .tables) (g .tidy) (h .tidy)) (refusals-unique a b w0 w1 allowed n s t u e f (g .tables) (h .tables) (g .tidy) (h .tidy))
     (verdictReply (q .verdict)) (verdictReply (r .verdict)) (g .keeps) (h .keeps) in
-    (judged-one (machineOf a) (machineOf b) (sizesOf a b allowed) (reply-one (q .verdict) (r .verdict) (w .0)) (g .counts) (h .counts), w .1)
+    (judged-one (machineOf a w0) (machineOf b w1) (sizesOf a b allowed) (reply-one (q .verdict) (r .verdict) (w .0)) (g .counts) (h .counts), w .1)
 
 -- "A design's entries beyond G, L and O count for nothing"
-same-machine : (a c : Design) → SameDesign a c → machineOf a ≡ machineOf c
-same-machine a c w = λ j. record { next = λ s v. same-next a c w s v j; out = λ s v. same-outputs a c w s v j }
+same-machine : (a c : Design) (w : List ℕ) → SameDesign a c → machineOf a w ≡ machineOf c w
+same-machine a c w e = λ j. record { next = λ s v. same-next a c e s v j; out = λ s v. same-outputs a c e s v j; seen = λ s v. same-watched a c e w s v j }
 
-module _ (a b c d : Design) (allowed : ℕ) (p : SameDesign a c) (q : SameDesign b d) where
+module _ (a b c d : Design) (w0 w1 : List ℕ) (allowed : ℕ) (p : SameDesign a c) (q : SameDesign b d) where
   same-sizes : sizesOf a b allowed ≡ sizesOf c d allowed
   same-sizes = let x = same-states a c p in let y = same-states b d q in let v = same-vectors a c p in λ j. record { old = x j; new = y j; vectors = v j; allowed = allowed }
 
   -- what holds of the machines and sizes of a and b holds of those of c and d
-  there : (P : Machine → Machine → Sizes → Type 0) → P (machineOf a) (machineOf b) (sizesOf a b allowed) → P (machineOf c) (machineOf d) (sizesOf c d allowed)
+  there : (P : Machine → Machine → Sizes → Type 0) → P (machineOf a w0) (machineOf b w1) (sizesOf a b allowed) → P (machineOf c w0) (machineOf d w1) (sizesOf c d allowed)
   there P h =
-      subst (λ (z : Sizes). P (machineOf c) (machineOf d) z) same-sizes
-      (subst (λ (m : Machine). P (machineOf c) m (sizesOf a b allowed)) (same-machine b d q) (subst (λ (m : Machine). P m (machineOf b) (sizesOf a b allowed)) (same-machine a c p) h))
+      subst (λ (z : Sizes). P (machineOf c w0) (machineOf d w1) z) same-sizes
+      (subst (λ (m : Machine). P (machineOf c w0) m (sizesOf a b allowed)) (same-machine b d w1 q) (subst (λ (m : Machine). P m (machineOf b w1) (sizesOf a b allowed)) (same-machine a c w0 p) h))
 
-  compare-fault : (n : TablesLent) (s : Lent) (k : ℕ) → CompareFault a b allowed n s k → CompareFault c d allowed n s k
-  compare-fault n s k (CompareFault.tabulating f) = CompareFault.tabulating (both-fault a b c d p q _ _ _ _ k f)
+  compare-fault : (n : TablesLent) (s : Lent) (k : ℕ) → CompareFault a b w0 w1 allowed n s k → CompareFault c d w0 w1 allowed n s k
+  compare-fault n s k (CompareFault.tabulating f) = CompareFault.tabulating (both-fault a b c d p q w0 w1 _ _ k f)
   compare-fault n s k (CompareFault.scratch h) = CompareFault.scratch (there (λ m0 m1 z. min (s .depth) (s .reach) < pairs z) h)
   compare-fault n s k (CompareFault.vectors o) = CompareFault.vectors (there (λ m0 m1 z. WrongAllowed z) o)
   compare-fault n s k (CompareFault.list f) = CompareFault.list (there (λ m0 m1 z. ShortList m0 m1 (Ok z) z (s .written) k) f)
 
-pub same-comparison : (a b c d : Design) (allowed : ℕ) → SameDesign a c → SameDesign b d → (n : TablesLent) (s : Lent) (t : TablesLeft) (e : Left) (r : Judged)
-    → Compares a b allowed n s t e r → Compares c d allowed n s t e r
-same-comparison a b c d allowed p q n s t e r h = record {
-  keeps = keeps-map (compare-fault a b c d allowed p q n s) (compare-fault c d a b allowed (same-sym p) (same-sym q) n s)
-      (λ x w. record { decided = there a b c d allowed p q (λ m0 m1 z. Decided m0 m1 (Ok z) z (e .written) x) (w .decided); old = same-holds a c p _ _ (w .old); new = same-holds b d q _ _ (w .new) })
+pub same-comparison : (a b c d : Design) (w0 w1 : List ℕ) (allowed : ℕ) → SameDesign a c → SameDesign b d → (n : TablesLent) (s : Lent) (t : TablesLeft) (e : Left) (r : Judged)
+    → Compares a b w0 w1 allowed n s t e r → Compares c d w0 w1 allowed n s t e r
+same-comparison a b c d w0 w1 allowed p q n s t e r h = record {
+  keeps = keeps-map (compare-fault a b c d w0 w1 allowed p q n s) (compare-fault c d a b w0 w1 allowed (same-sym p) (same-sym q) n s)
+      (λ x w. record { decided = there a b c d w0 w1 allowed p q (λ m0 m1 z. Decided m0 m1 (Ok z) z (e .written) x) (w .decided); old = same-holds a c p w0 _ (w .old); new = same-holds b d q w1 _ (w .new) })
       (λ w. w) (verdictReply (r .verdict)) (h .keeps);
   tidy = h .tidy;
   tables = h .tables;
-  counts = there a b c d allowed p q (λ m0 m1 z. CountsBeside m0 m1 (Ok z) z (verdictReply (r .verdict)) (r .alike) (r .alignable)) (h .counts);
+  counts = there a b c d w0 w1 allowed p q (λ m0 m1 z. CountsBeside m0 m1 (Ok z) z (verdictReply (r .verdict)) (r .alike) (r .alignable)) (h .counts);
 }

@@ -7,6 +7,7 @@ use native.Mathlib.Omega.{arith}
 use lib.ListN.{length}
 use Rattle.memory.specs.Meaning.Refusals.{First}
 use Rattle.memory.proofs.Places.{place-last, place-of-first}
+use Rattle.memory.specs.Meaning.Tables.{shortestOf}
 use Rattle.netlist.specs.declared.Design.{Design}
 use Rattle.netlist.specs.Meaning.Faults.{Accepted}
 use Rattle.simulator.specs.Meaning.Tables.{TableFault, BothFault}
@@ -27,14 +28,14 @@ use Rattle.compare.specs.Meaning.Designs.{machineOf, sizesOf}
 use Rattle.compare.specs.Meaning.Comparing.{TablesLent, TablesLeft, CompareFault, Compares}
 use Rattle.compare.specs.Meaning.Demand.{Enough}
 use Rattle.compare.proofs.Agreement.{states-few}
-use Rattle.compare.proofs.Comparison.{both-place}
+use Rattle.simulator.proofs.Faults.{both-place}
 
-module _ (a b : Design) (allowed : ℕ) where
+module _ (a b : Design) (w0 w1 : List ℕ) (allowed : ℕ) where
   abbrev m0 : Machine
-  m0 = machineOf a
+  m0 = machineOf a w0
 
   abbrev m1 : Machine
-  m1 = machineOf b
+  m1 = machineOf b w1
 
   abbrev z : Sizes
   z = sizesOf a b allowed
@@ -48,13 +49,13 @@ module _ (a b : Design) (allowed : ℕ) where
   designs-bounded Ok = bounded m0 m1 Ok z (designs-stay Ok)
 
   -- what demand 3 supposes of scratch and list slice, by numbers alone
-  pub enough-always : (s : Lent) → pairs z ≤ min (s .depth) (s .reach) → mostTrace z ≤ s .written → mostList z ≤ s .written → Enough a b allowed s
+  pub enough-always : (s : Lent) → pairs z ≤ min (s .depth) (s .reach) → mostTrace z ≤ s .written → mostList z ≤ s .written → Enough a b w0 w1 allowed s
   enough-always s room trace steps = record { scratch = room; list = all-fit (designs-bounded (Ok z)) trace steps }
 
   -- 16 comes of accepted designs, and of a list that the slice cannot hold
-  module _ {n : TablesLent} {s : Lent} (f : First (CompareFault a b allowed n s) 16) where
-    none : {k : ℕ} → BothFault a b (n .old-next) (n .old-out) (n .new-next) (n .new-out) k → ⊥
-    none x = omega (arith, place-of-first f (CompareFault.tabulating x), both-place x, place-last 16 (omega arith) (omega arith))
+  module _ {n : TablesLent} {s : Lent} (f : First (CompareFault a b w0 w1 allowed n s) 16) where
+    none : {k : ℕ} → BothFault a b w0 w1 (shortestOf (n .old)) (shortestOf (n .new)) k → ⊥
+    none x = omega (arith, place-of-first f (CompareFault.tabulating x), both-place a b w0 w1 (shortestOf (n .old)) (shortestOf (n .new)) x, place-last 16 (omega arith) (omega arith))
 
     old-accepted : Accepted a
     old-accepted k x = none (BothFault.old (TableFault.design x))
@@ -65,7 +66,7 @@ module _ (a b : Design) (allowed : ℕ) where
     short-16 : ShortList m0 m1 (Ok z) z (s .written) 16
     short-16 = go (f .applies) refl
       where
-        go : {k : ℕ} → CompareFault a b allowed n s k → k ≡ 16 → ShortList m0 m1 (Ok z) z (s .written) k
+        go : {k : ℕ} → CompareFault a b w0 w1 allowed n s k → k ≡ 16 → ShortList m0 m1 (Ok z) z (s .written) k
         go (CompareFault.tabulating x) q = absurd (none x)
         go (CompareFault.scratch h) q = absurd (omega arith)
         go (CompareFault.vectors w) q = absurd (omega arith)
@@ -88,7 +89,7 @@ module _ (a b : Design) (allowed : ℕ) where
     first-fits trace steps = fits-not-16 (designs-bounded (Ok z)) trace steps short-16
 
   -- `compare`
-  module _ {n : TablesLent} {s : Lent} {t : TablesLeft} {e : Left} {r : Judged} (c : Compares a b allowed n s t e r) where
+  module _ {n : TablesLent} {s : Lent} {t : TablesLeft} {e : Left} {r : Judged} (c : Compares a b w0 w1 allowed n s t e r) where
     -- "A verdict's list takes .. at most (S0 + S1 − 1) × (S0 × S1 − 1) steps": of what it answers
     pub same-few : (k : ℕ) → r .verdict ≡ Verdict.Same k → k ≤ mostList z
     same-few k is = same-most (designs-bounded (Ok z)) (e .written) k ((rw is at (c .keeps)) .1 .decided)
@@ -98,7 +99,7 @@ module _ (a b : Design) (allowed : ℕ) where
     apart-few p k is = apart-most (designs-bounded (Ok z)) (e .written) p k ((rw is at (c .keeps)) .1 .decided)
 
     module _ (is : r .verdict ≡ Verdict.Refused 16) where
-      refused : First (CompareFault a b allowed n s) 16
+      refused : First (CompareFault a b w0 w1 allowed n s) 16
       refused = (rw is at (c .keeps)) .0
 
       pub fits-same : mostTrace z ≤ s .written → (l : List ℕ) × IsSame m0 m1 (Ok z) z l × (s .written < length l)

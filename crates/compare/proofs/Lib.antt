@@ -4,3 +4,4 @@ pub mod Demand
 pub mod Determined
 pub mod Before
 pub mod Lengths
+pub mod Watched

@@ -1,5 +1,8 @@
 // Two designs to a verdict: their tables are written, and judged. A refusal that comes only then clears the tables again.
 ghost use lib.ListN.{length};
+ghost use mathlib.Core.Path.{_≡_};
+ghost use Rattle.memory.specs.Meaning.Slices.{Cleared};
+ghost use Rattle.memory.specs.Meaning.Tables.{tableOf, lengthsOf};
 ghost use Rattle.machine.specs.Meaning.Tables.{bothTables};
 ghost use Rattle.machine.specs.Meaning.Lent.{lentOf, leftOf};
 ghost use Rattle.compare.specs.Meaning.Comparing.{tablesLentOf, tablesLeftOf, Compares};
@@ -10,33 +13,40 @@ use simulator::TabulatedBoth;
 use verdict::Judged;
 use verdict::Verdict;
 
-// The verdict on two designs whose inputs show allowed vectors alone, with its list or trace and the counts of alike and of alignable
-// pairs, and the tables of both.
+// The verdict on two designs, with the nets that are watched beside each, whose inputs show allowed vectors alone; with its list or trace
+// and the counts of alike and of alignable pairs, and the tables of both.
 pub fn compare(
     old: Design,
     new: Design,
+    old_watch: &[u16],
+    new_watch: &[u16],
     allowed: u64,
     old_next: &mut [u8],
     old_out: &mut [u8],
+    old_seen: &mut [u8],
     new_next: &mut [u8],
     new_out: &mut [u8],
+    new_seen: &mut [u8],
     depth: &mut [u8],
     reach: &mut [u16],
     list: &mut [u8],
 ) -> Judged
-    ensures { λ r. ⌜ Compares old new allowed (tablesLentOf (length (now («old_next» .entry))) (length (now («old_out» .entry))) (length (now («new_next» .entry))) (length (now («new_out» .entry)))) (lentOf (length (now (depth .entry))) (length (now (reach .entry))) (length (now (list .entry)))) (tablesLeftOf (now («old_next» .exit)) (now («old_out» .exit)) (now («new_next» .exit)) (now («new_out» .exit))) (leftOf (now (depth .exit)) (now (reach .exit)) (now (list .exit))) r ⌝ }
+    ensures { λ r. ⌜ Compares old new (now («old_watch» .entry)) (now («new_watch» .entry)) allowed (tablesLentOf (lengthsOf (tableOf (now («old_next» .entry)) (now («old_out» .entry)) (now («old_seen» .entry)))) (lengthsOf (tableOf (now («new_next» .entry)) (now («new_out» .entry)) (now («new_seen» .entry))))) (lentOf (length (now (depth .entry))) (length (now (reach .entry))) (length (now (list .entry)))) (tablesLeftOf (tableOf (now («old_next» .exit)) (now («old_out» .exit)) (now («old_seen» .exit))) (tableOf (now («new_next» .exit)) (now («new_out» .exit)) (now («new_seen» .exit)))) (leftOf (now (depth .exit)) (now (reach .exit)) (now (list .exit))) r ⌝ }
 {
-    let tabulated = simulator::tabulate_both(old, new, old_next, old_out, new_next, new_out);
+    let tabulated = simulator::tabulate_both(
+        old,
+        new,
+        old_watch,
+        new_watch,
+        old_next,
+        old_out,
+        old_seen,
+        new_next,
+        new_out,
+        new_seen,
+    );
     match tabulated {
-        TabulatedBoth::Refused(number) => {
-            memory::clear_scratch(depth, reach);
-            memory::clear_bytes(list);
-            Judged {
-                verdict: Verdict::Refused(number),
-                alike: 0,
-                alignable: 0,
-            }
-        }
+        TabulatedBoth::Refused(number) => refuse(number, depth, reach, list),
         TabulatedBoth::Both {
             old: old_states,
             new: new_states,
@@ -51,8 +61,10 @@ pub fn compare(
             judge_or_clear(
                 old_next,
                 old_out,
+                old_seen,
                 new_next,
                 new_out,
+                new_seen,
                 sizes,
                 depth,
                 reach,
@@ -62,24 +74,44 @@ pub fn compare(
     }
 }
 
+// The answer beside a refusal of the tabulating call; the slices that it does not write are cleared.
+fn refuse(number: u8, depth: &mut [u8], reach: &mut [u16], list: &mut [u8]) -> Judged
+    ensures { λ r. ⌜ r ≡ record { verdict = Verdict.Refused number; alike = 0; alignable = 0 } ⌝ }
+    ensures { λ _. ⌜ Cleared (length (now (depth .entry))) (now (depth .exit)) ⌝ }
+    ensures { λ _. ⌜ Cleared (length (now (reach .entry))) (now (reach .exit)) ⌝ }
+    ensures { λ _. ⌜ Cleared (length (now (list .entry))) (now (list .exit)) ⌝ }
+{
+    memory::clear_scratch(depth, reach);
+    memory::clear_bytes(list);
+    Judged {
+        verdict: Verdict::Refused(number),
+        alike: 0,
+        alignable: 0,
+    }
+}
+
 // The verdict on two tables, which are cleared beside a refusal.
 fn judge_or_clear(
     old_next: &mut [u8],
     old_out: &mut [u8],
+    old_seen: &mut [u8],
     new_next: &mut [u8],
     new_out: &mut [u8],
+    new_seen: &mut [u8],
     sizes: Sizes,
     depth: &mut [u8],
     reach: &mut [u16],
     list: &mut [u8],
 ) -> Judged
-    ensures { λ r. ⌜ JudgedOrCleared (bothTables sizes (now («old_next» .entry)) (now («old_out» .entry)) (now («new_next» .entry)) (now («new_out» .entry))) (lentOf (length (now (depth .entry))) (length (now (reach .entry))) (length (now (list .entry)))) (tablesLeftOf (now («old_next» .exit)) (now («old_out» .exit)) (now («new_next» .exit)) (now («new_out» .exit))) (leftOf (now (depth .exit)) (now (reach .exit)) (now (list .exit))) r ⌝ }
+    ensures { λ r. ⌜ JudgedOrCleared (bothTables sizes (now («old_next» .entry)) (now («old_out» .entry)) (now («old_seen» .entry)) (now («new_next» .entry)) (now («new_out» .entry)) (now («new_seen» .entry))) (lentOf (length (now (depth .entry))) (length (now (reach .entry))) (length (now (list .entry)))) (tablesLeftOf (tableOf (now («old_next» .exit)) (now («old_out» .exit)) (now («old_seen» .exit))) (tableOf (now («new_next» .exit)) (now («new_out» .exit)) (now («new_seen» .exit)))) (leftOf (now (depth .exit)) (now (reach .exit)) (now (list .exit))) r ⌝ }
 {
     let judged = verdict::judge(
         old_next,
         old_out,
+        old_seen,
         new_next,
         new_out,
+        new_seen,
         sizes,
         depth,
         reach,
@@ -89,9 +121,7 @@ fn judge_or_clear(
     let Verdict::Refused(_) = answer else {
         return judged;
     };
-    memory::clear_bytes(old_next);
-    memory::clear_bytes(old_out);
-    memory::clear_bytes(new_next);
-    memory::clear_bytes(new_out);
+    memory::clear_table(old_next, old_out, old_seen);
+    memory::clear_table(new_next, new_out, new_seen);
     judged
 }

@@ -18,16 +18,12 @@ use Rattle.machine.proofs.Numbers.{number-in}
 use Rattle.places.specs.Working.{Good, MapFor}
 use Rattle.seek.specs.Working.Steps.{MapOf}
 use Rattle.places.proofs.Right.{alike-of-zero, zero-of-alike}
-use Rattle.seek.proofs.Sets.{flag-is}
+use Rattle.seek.proofs.Sets.{flag-is, flag-there}
 use Rattle.engine.specs.Meaning.Maps.{Marks}
 
 -- what fits the shortest of three fits each
 pub fits-each : {k a b c : ℕ} → k ≤ min a (min b c) → (k ≤ a) × (k ≤ b) × (k ≤ c)
 fits-each h = (omega arith, omega arith, omega arith)
-
-flag-there : {P Q : Type 0} {x : ℕ} → (P → Q) → (Q → P) → Flag P x → Flag Q x
-flag-there f g (holds e p) = holds e (f p)
-flag-there f g (fails e n) = fails e (λ q. n (g q))
 
 flag-positive : {P : Type 0} {x : ℕ} → Flag P x → 0 < x → P
 flag-positive (holds e p) h = p
@@ -47,7 +43,7 @@ module _ (t : Tables) (g : Good t) where
     counts = c;
   }
 
-  -- e′ is 1 where the map to different outputs holds 0
+  -- e′ is 1 where the map to pairs that show a difference holds 0
   pub marks-alike : {d e e′ mark mark′ : List ℕ} {n : ℕ} → MapFor t (DiffersIn t) d → Flagged (λ q. getD d q 0 ≡ 0) (pairs z) e e′
       → Flagged (λ q. 0 < getD e′ q 0) (pairs z) mark mark′ → Zero mark → n ≡ countOf 1 mark′ (pairs z) → Marks (AlikeIn t) z mark′ n
   marks-alike {d} {e} {e′} m f h o c = marks-of e′ there back h o c

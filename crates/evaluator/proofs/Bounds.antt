@@ -1,15 +1,17 @@
--- Every value is 0 or 1, so next states are below 2 to the L and outputs below 2 to the O.
+-- Every value is 0 or 1, so next states are below 2 to the L, outputs below 2 to the O, and watched values below 2 to their number.
 use Prim.Native.Nat.{ℕ, zero, suc, _+_, _-_, _^_, _<_}
-use mathlib.Core.Path.{_≡_, refl}
+use mathlib.Core.Path.{_≡_, refl, sym, _∙_, ap, subst}
+use mathlib.Core.List.{List}
 use mathlib.Core.Bool.{Bool, true, false, cond}
 use native.Mathlib.Nat.{mod-lt}
 use borrow.Author.Tests.{ltb-true}
 use lib.Dec.{ltb, lit<}
-use lib.ListN.{getD}
-use Rattle.numbers.specs.Meaning.Bits.{bitOf}
-use Rattle.numbers.proofs.Digits.{horner-lt}
+use lib.ListN.{length, getD}
+use Rattle.numbers.specs.Meaning.Bits.{bitOf, horner}
+use Rattle.numbers.proofs.Digits.{horner-lt, horner-cong, horner-digit}
 use Rattle.netlist.specs.declared.Design.{Design}
 use Rattle.netlist.specs.Meaning.Nets.{cellBase, netsOf, gateAt, latched, gateValue, source, settled, isLive, value, nextBit, outputBit, nextState, outputs, statesOf}
+use Rattle.netlist.specs.Meaning.Watched.{watchedBit, watched}
 use Rattle.evaluator.proofs.Truth.{truth-lt}
 
 pub source-lt : (d : Design) (s v n : ℕ) → source d s v n < 2
@@ -58,3 +60,18 @@ next-state-lt d s v = horner-lt (nextBit d s v) (d .latches) bit
 
 pub outputs-lt : (d : Design) (s v : ℕ) → outputs d s v < 2 ^ d .outputs
 outputs-lt d s v = horner-lt (outputBit d s v) (d .outputs) (λ j. value-lt d s v (getD (d .shown) j 0))
+
+pub watched-lt : (d : Design) (w : List ℕ) (s v : ℕ) → watched d w s v < 2 ^ length w
+watched-lt d w s v = horner-lt (watchedBit d w s v) (length w) (λ j. value-lt d s v (getD w j 0))
+
+-- "the k-th of the old answers to the k-th of the new": of as many nets, watched values are the same exactly where each two nets show the same
+module _ (a b : Design) (w0 w1 : List ℕ) (s t v : ℕ) (e : length w0 ≡ length w1) where
+  pub watched-each : watched a w0 s v ≡ watched b w1 t v → (k : ℕ) → k < length w0 → watchedBit a w0 s v k ≡ watchedBit b w1 t v k
+  watched-each q k h =
+      sym (horner-digit (watchedBit a w0 s v) (λ j. value-lt a s v (getD w0 j 0)) (length w0) k h)
+      ∙ ap (λ (x : ℕ). bitOf (length w0) x k) q
+      ∙ subst (λ (n : ℕ). bitOf n (horner (watchedBit b w1 t v) (length w1)) k ≡ watchedBit b w1 t v k) (sym e)
+      (horner-digit (watchedBit b w1 t v) (λ j. value-lt b t v (getD w1 j 0)) (length w1) k (subst (λ (n : ℕ). k < n) e h))
+
+  pub each-watched : ((k : ℕ) → k < length w0 → watchedBit a w0 s v k ≡ watchedBit b w1 t v k) → watched a w0 s v ≡ watched b w1 t v
+  each-watched f = horner-cong (watchedBit a w0 s v) (watchedBit b w1 t v) (length w0) f ∙ ap (horner (watchedBit b w1 t v)) e

@@ -10,11 +10,12 @@ ghost use Rattle.memory.specs.Working.Filling.{Filled};
 ghost use Rattle.netlist.specs.Meaning.Gates.{firstOf, secondOf};
 ghost use Rattle.netlist.specs.Meaning.Nets.{cellBase, gateValue, source, value, latched, nextState, outputs};
 ghost use Rattle.netlist.specs.Working.Sound.{Sound};
-ghost use Rattle.evaluator.specs.Working.Values.{mostNets, Evaluable, Holds, Readable, Latchable, latchedIn, Spreads};
+ghost use Rattle.evaluator.specs.Working.Values.{mostNets, Evaluable, WatchedNets, watchedIn, Holds, Readable, Latchable, latchedIn, Spreads};
 use limits::Image;
 use netlist::Design;
 use netlist::Gate;
 use order::Plan;
+use watched::Watch;
 
 pub struct Stepped {
     pub next: u8,
@@ -26,6 +27,30 @@ pub fn step(d: Design, plan: Plan, s: usize, v: usize) -> Stepped
     requires { ⌜ Evaluable d (plan .kept) (plan .cells) ⌝ }
     ensures { λ r. ⌜ (r .next ≡ nextState d s v) × (r .out ≡ outputs d s v) ⌝ }
 {
+    let nothing = Watch {
+        number: 0,
+        count: 0,
+        nets: [0u16; watched::MOST_WATCHED],
+    };
+    let o = observe(d, plan, nothing, s, v);
+    Stepped {
+        next: o.next,
+        out: o.out,
+    }
+}
+
+pub struct Observed {
+    pub next: u8,
+    pub out: u8,
+    pub seen: u8,
+}
+
+// One clock, and what the watched nets show before it.
+pub fn observe(d: Design, plan: Plan, watch: Watch, s: usize, v: usize) -> Observed
+    requires { ⌜ Evaluable d (plan .kept) (plan .cells) ⌝ }
+    requires { ⌜ WatchedNets d (watch .count) (watch .nets) ⌝ }
+    ensures { λ r. ⌜ (r .next ≡ nextState d s v) × (r .out ≡ outputs d s v) × (r .seen ≡ watchedIn d (watch .count) (watch .nets) s v) ⌝ }
+{
     let vals = values(d, plan, s, v);
     let data = d.data;
     let enable = d.enable;
@@ -34,7 +59,9 @@ pub fn step(d: Design, plan: Plan, s: usize, v: usize) -> Stepped
     let next = next_word(&data, &enable, &clear, own, d.latches as usize, &vals);
     let shown = d.shown;
     let out = word(&shown, d.outputs as usize, &vals);
-    Stepped { next, out }
+    let nets = watch.nets;
+    let seen = word(&nets, watch.count, &vals);
+    Observed { next, out, seen }
 }
 
 // How many numbers n bits have.

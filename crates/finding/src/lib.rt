@@ -2,30 +2,32 @@
 ghost use mathlib.Core.Path.{_≡_};
 ghost use Prim.Native.Nat.{_≤_};
 ghost use lib.ListN.{length};
-ghost use Rattle.machine.specs.Meaning.Tables.{bothTables, pairs, at, In, AlikeIn, TraceIn};
+ghost use Rattle.machine.specs.Meaning.Tables.{bothTables, pairs, at, In};
 ghost use Rattle.machine.specs.Working.Pairs.{DiffersIn};
-ghost use Rattle.places.specs.Working.{Walk, Ready, Good, MapFor, ListTo, Outcome};
+ghost use Rattle.places.specs.Working.{Walk, Ready, Good, MapFor, ListTo, Outcome, TraceOutcome};
 use machine::Found;
 use machine::Pair;
 use machine::Prior;
 use machine::Sizes;
 
-// The trace of the pair p, by the map of the lists to pairs that show different outputs.
+// The trace of the pair p, by the map of the lists to pairs that show a difference.
 pub fn find_trace(
     old_next: &[u8],
     old_out: &[u8],
+    old_seen: &[u8],
     new_next: &[u8],
     new_out: &[u8],
+    new_seen: &[u8],
     sizes: Sizes,
     p: Pair,
     map: &[u16],
     list: &mut [u8],
 ) -> Found
-    requires { ⌜ Good (bothTables sizes (now «old_next») (now «old_out») (now «new_next») (now «new_out»)) ⌝ }
+    requires { ⌜ Good (bothTables sizes (now «old_next») (now «old_out») (now «old_seen») (now «new_next») (now «new_out») (now «new_seen»)) ⌝ }
     requires { ⌜ pairs sizes ≤ length (now map) ⌝ }
-    requires { ⌜ MapFor (bothTables sizes (now «old_next») (now «old_out») (now «new_next») (now «new_out»)) (DiffersIn (bothTables sizes (now «old_next») (now «old_out») (now «new_next») (now «new_out»))) (now map) ⌝ }
+    requires { ⌜ MapFor (bothTables sizes (now «old_next») (now «old_out») (now «old_seen») (now «new_next») (now «new_out») (now «new_seen»)) (DiffersIn (bothTables sizes (now «old_next») (now «old_out») (now «old_seen») (now «new_next») (now «new_out») (now «new_seen»))) (now map) ⌝ }
     requires { ⌜ In sizes p ⌝ }
-    ensures { λ r. ⌜ Outcome (AlikeIn (bothTables sizes (now («old_next» .entry)) (now («old_out» .entry)) (now («new_next» .entry)) (now («new_out» .entry))) p) (TraceIn (bothTables sizes (now («old_next» .entry)) (now («old_out» .entry)) (now («new_next» .entry)) (now («new_out» .entry))) p) (now (list .entry)) (now (list .exit)) r ⌝ }
+    ensures { λ r. ⌜ TraceOutcome (bothTables sizes (now («old_next» .entry)) (now («old_out» .entry)) (now («old_seen» .entry)) (now («new_next» .entry)) (now («new_out» .entry)) (now («new_seen» .entry))) p (now (list .entry)) (now (list .exit)) r ⌝ }
 {
     let steps = places::map_at(sizes, map, p);
     if steps == 0 {
@@ -36,7 +38,7 @@ pub fn find_trace(
     }
     let end = descent::descend(old_next, new_next, sizes, map, p, Prior::Start, list);
     let prior = places::prior_at(list, steps - 1);
-    let v = flags::chosen_different(old_out, new_out, sizes, end, prior);
+    let v = flags::chosen_different(old_out, old_seen, new_out, new_seen, sizes, end, prior);
     list[steps - 1] = places::narrow(v);
     Found::Steps(steps)
 }

@@ -14,7 +14,7 @@ equal-test : (x y : ℕ) → x ≡ y → T (eqb x y)
 equal-test x y e = rw e (eqb-refl y)
 
 -- source x answers f x l v to the question of the list l and the vector v
-module _ (f : ℕ → List ℕ → ℕ → ℕ) (n : ℕ) where
+module _ {Answer : Type 0} (f : ℕ → List ℕ → ℕ → Answer) (n : ℕ) where
   -- x and y give the same answers to the questions P
   abbrev pub AgreeOn : (List ℕ → ℕ → Type 0) → ℕ → ℕ → Type 0
   AgreeOn P x y = (l : List ℕ) (v : ℕ) → P l v → f x l v ≡ f y l v

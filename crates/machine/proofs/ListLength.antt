@@ -13,7 +13,7 @@ use Rattle.machine.specs.declared.Pair.{Pair}
 use Rattle.machine.specs.declared.Sizes.{Sizes}
 use Rattle.machine.specs.Meaning.Lists.{Each, run, Leads}
 use Rattle.machine.specs.Meaning.Pick.{Shortest}
-use Rattle.machine.specs.Meaning.Machine.{Machine, step, SameOut, Alike}
+use Rattle.machine.specs.Meaning.Machine.{Machine, step, Agrees, Alike}
 use Rattle.machine.specs.Meaning.Tables.{pairs, number, In}
 use Rattle.machine.specs.Meaning.Verdict.{Rounds, done, more, roundsTaken}
 use Rattle.machine.specs.Meaning.Bounds.{mostRounds, mostList, StaysIn}
@@ -21,7 +21,7 @@ use Rattle.machine.specs.Working.Answers.{answer, After}
 use Rattle.machine.proofs.Lists.{each-append, each-front, each-back, run-append, run-in}
 use Rattle.machine.proofs.Numbers.{number-in, number-inj}
 use Rattle.machine.proofs.Classes.{AgreeOn, Classes, classes-start, classes-some, classes-join}
-use Rattle.machine.proofs.Answers.{same-out-of, of-same-out}
+use Rattle.machine.proofs.Answers.{agrees-of, of-agrees}
 use Rattle.machine.proofs.Pairs.{open-list-has-step}
 use Rattle.machine.proofs.Verdict.{may-in}
 
@@ -38,12 +38,12 @@ module _ (m0 m1 : Machine) (Ok : ℕ → Type 0) (z : Sizes) where
   -- a list leads a pair to an alike one if and only if both states answer the same after it
   agree-of-alike : (l : List ℕ) (p : Pair) → In z p → Alike m0 m1 Ok (run (step m0 m1) p l) → AgreeAfter l p
   agree-of-alike l p i a w v q =
-      of-same-out m0 m1 (z .old) p w v (i .in-old)
-      (subst (λ (x : Pair). SameOut m0 m1 x v) (sym (ap (run (step m0 m1) p) (q .splits) ∙ run-append (step m0 m1) p l (q .rest))) (a .agree (q .rest) (q .allowed) v (q .last)))
+      of-agrees m0 m1 (z .old) p w v (i .in-old)
+      (subst (λ (x : Pair). Agrees m0 m1 x v) (sym (ap (run (step m0 m1) p) (q .splits) ∙ run-append (step m0 m1) p l (q .rest))) (a .agree (q .rest) (q .allowed) v (q .last)))
 
   alike-of-agree : (l : List ℕ) (p : Pair) → In z p → AgreeAfter l p → Alike m0 m1 Ok (run (step m0 m1) p l)
   alike-of-agree l p i s = record {
-    agree = λ w o v k. subst (λ (x : Pair). SameOut m0 m1 x v) (run-append (step m0 m1) p l w) (same-out-of m0 m1 (z .old) p (l ++ w) v (i .in-old) (s (l ++ w) v (record { rest = w; splits = refl; allowed = o; last = k })));
+    agree = λ w o v k. subst (λ (x : Pair). Agrees m0 m1 x v) (run-append (step m0 m1) p l w) (agrees-of m0 m1 (z .old) p (l ++ w) v (i .in-old) (s (l ++ w) v (record { rest = w; splits = refl; allowed = o; last = k })));
   }
 
   -- a round leaves one class fewer

@@ -5,14 +5,14 @@ use mathlib.Core.List.{List, [], _∷_}
 use Prim.Native.Nat.{ℕ, zero, suc, _<_, _≤_}
 use native.Mathlib.Omega.{arith}
 use lib.ListN.{length}
-use Rattle.numbers.proofs.Order.{tri, stable}
+use Rattle.numbers.proofs.Order.{tri}
 use Rattle.machine.specs.declared.Pair.{Pair}
 use Rattle.machine.specs.Meaning.Lists.{Each, run}
-use Rattle.machine.specs.Meaning.Machine.{Machine, step, SameOut, Alike, Alignable}
-use Rattle.machine.specs.Meaning.Rounds.{EqualOutputs, A, B, Unchanged, FirstUnchanged}
+use Rattle.machine.specs.Meaning.Machine.{Machine, step, Agrees, Alike, Alignable}
+use Rattle.machine.specs.Meaning.Rounds.{EqualShown, A, B, Unchanged, FirstUnchanged}
 use Rattle.machine.specs.Working.Maps.{Within, Grown, FirstStill}
 use Rattle.machine.proofs.Lists.{within-list, list-within}
-use Rattle.machine.proofs.Pairs.{Different, alike-step}
+use Rattle.machine.proofs.Pairs.{agrees-stable, Different, alike-step}
 
 -- the number is at least 1, and there is one
 module _ {S : ℕ → Pair → Type 0} {In : Pair → Type 0} where
@@ -41,7 +41,7 @@ module _ (m0 m1 : Machine) (Ok : ℕ → Type 0) where
   pub a-alike : (p : Pair) → ((i : ℕ) → A m0 m1 Ok i p) → Alike m0 m1 Ok p
   a-alike p a = record { agree = λ vs e v o. go vs p (a (length vs)) e v o }
     where
-      go : (vs : List ℕ) (q : Pair) → A m0 m1 Ok (length vs) q → Each Ok vs → (v : ℕ) → Ok v → SameOut m0 m1 (run (step m0 m1) q vs) v
+      go : (vs : List ℕ) (q : Pair) → A m0 m1 Ok (length vs) q → Each Ok vs → (v : ℕ) → Ok v → Agrees m0 m1 (run (step m0 m1) q vs) v
       go [] q h e v o = h v o
       go (u ∷ us) q h e v o = go us (step m0 m1 q u) (h .1 u (e .0)) (e .1) v o
 
@@ -63,7 +63,7 @@ module _ (m0 m1 : Machine) (Ok : ℕ → Type 0) where
   pub b-alignable : (i : ℕ) (p : Pair) → B m0 m1 Ok i p → Alignable m0 m1 Ok p
   b-alignable i p b = let x = within-list (step m0 m1) Ok (Alike m0 m1 Ok) i p (b-within i p b) in record { list = x .0; leads = x .1 }
 
-  -- A_i holds the pairs that no list of at most i steps leads to different outputs
+  -- A_i holds the pairs that no list of at most i steps leads to a difference
   abbrev Reached : ℕ → Pair → Type 0
   Reached i p = Within (step m0 m1) Ok (Different m0 m1 Ok) i p
 
@@ -76,8 +76,8 @@ module _ (m0 m1 : Machine) (Ok : ℕ → Type 0) where
   up zero p w = w
   up (suc i) p w = inl (up i p w)
 
-  equal : (p : Pair) → (Reached zero p → ⊥) → EqualOutputs m0 m1 Ok p
-  equal p n = λ v o. stable (m0 .out (p .old) v) (m1 .out (p .new) v) (λ d. n (record { vector = v; allowed = o; differs = d }))
+  equal : (p : Pair) → (Reached zero p → ⊥) → EqualShown m0 m1 Ok p
+  equal p n = λ v o. agrees-stable m0 m1 p v (λ d. n (record { vector = v; allowed = o; differs = d }))
 
   pub not-within-a : (i : ℕ) (p : Pair) → (Reached i p → ⊥) → A m0 m1 Ok i p
   not-within-a zero p n = equal p n

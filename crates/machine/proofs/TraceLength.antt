@@ -7,7 +7,7 @@ use Prim.Native.Nat.{ℕ, zero, suc, _<_, _≤_, _+_}
 use native.Mathlib.Omega.{arith}
 use native.Mathlib.Nat.{suc-inj}
 use lib.ListN.{length, length-append}
-use Rattle.numbers.proofs.Order.{stable, zero-or}
+use Rattle.numbers.proofs.Order.{zero-or}
 use Rattle.machine.specs.declared.Pair.{Pair}
 use Rattle.machine.specs.declared.Sizes.{Sizes}
 use Rattle.machine.specs.Meaning.Lists.{Leads}
@@ -18,10 +18,10 @@ use Rattle.machine.specs.Meaning.Bounds.{mostTrace, StaysIn}
 use Rattle.machine.specs.Working.Maps.{Dist, Complete}
 use Rattle.machine.specs.Working.Answers.{answer, Early}
 use Rattle.machine.proofs.Lists.{each-append, leads-cons, leads-tail}
-use Rattle.machine.proofs.Pairs.{Different}
+use Rattle.machine.proofs.Pairs.{agrees-stable, Different}
 use Rattle.machine.proofs.Traces.{into}
 use Rattle.machine.proofs.Classes.{AgreeOn, Classes, classes-start, classes-some, classes-join}
-use Rattle.machine.proofs.Answers.{same-out-of, of-same-out}
+use Rattle.machine.proofs.Answers.{agrees-of, of-agrees}
 
 module _ (m0 m1 : Machine) (Ok : ℕ → Type 0) (z : Sizes) (stays : StaysIn m0 m1 Ok z) where
   abbrev Far : Pair → ℕ → Type 0
@@ -30,16 +30,16 @@ module _ (m0 m1 : Machine) (Ok : ℕ → Type 0) (z : Sizes) (stays : StaysIn m0
   abbrev Parted : ℕ → ℕ → Type 0
   Parted k c = Classes (answer m0 m1 (z .old)) (z .old + z .new) (Early Ok k) c
 
-  -- what no list of fewer than k steps leads to different outputs agrees on k steps
+  -- what no list of fewer than k steps leads to a difference agrees on k steps
   early-agree : (k : ℕ) (p : Pair) → In z p → Far p k → AgreeOn (answer m0 m1 (z .old)) (z .old + z .new) (Early Ok k) (p .old) (z .old + p .new)
   early-agree k p i d l v q =
-      of-same-out m0 m1 (z .old) p l v (i .in-old)
-      (stable _ _ (λ n. d .none l (record { allowed = q .allowed; ends = record { vector = v; allowed = q .last; differs = n } }) (q .short)))
+      of-agrees m0 m1 (z .old) p l v (i .in-old)
+      (agrees-stable m0 m1 _ v (λ n. d .none l (record { allowed = q .allowed; ends = record { vector = v; allowed = q .last; differs = n } }) (q .short)))
 
   late-apart : (k : ℕ) (p : Pair) → In z p → Far p k → AgreeOn (answer m0 m1 (z .old)) (z .old + z .new) (Early Ok (suc k)) (p .old) (z .old + p .new) → ⊥
   late-apart k p i d a =
       let w = d .leads in
-      w .ends .differs (same-out-of m0 m1 (z .old) p (d .list) (w .ends .vector) (i .in-old) (a (d .list) (w .ends .vector) (record { allowed = w .allowed; last = w .ends .allowed; short = omega (arith, d .long) })))
+      w .ends .differs (agrees-of m0 m1 (z .old) p (d .list) (w .ends .vector) (i .in-old) (a (d .list) (w .ends .vector) (record { allowed = w .allowed; last = w .ends .allowed; short = omega (arith, d .long) })))
 
   -- one step on, one step less
   next-far : (k : ℕ) (p : Pair) → In z p → Far p (suc k) → (q : Pair) × In z q × Far q k
@@ -73,11 +73,11 @@ module _ (m0 m1 : Machine) (Ok : ℕ → Type 0) (z : Sizes) (stays : StaysIn m0
       let q = next-far k p i d in
       omega (arith, x .1, far-many k (x .0) (q .0) (q .1) (q .2) (x .2))
 
-  -- a pair that a list of k steps, and no shorter one, leads to different outputs: the step that shows them is the last of so many
+  -- a pair that a list of k steps, and no shorter one, leads to a difference: the step that shows it is the last of so many
   pub differs-near : (p : Pair) (k : ℕ) → In z p → Dist (step m0 m1) Ok (Different m0 m1 Ok) p k → suc k ≤ mostTrace z
   differs-near p k i d = omega (arith, far-many k (z .old + z .new) p i d (classes-start (answer m0 m1 (z .old)) (z .old + z .new) (Early Ok (suc k))))
 
-  -- §8: so a map to different outputs, which holds how long traces are, holds no more
+  -- §8: so a map to differences, which holds how long traces are, holds no more
   pub map-near : (m : Pair → ℕ) → Complete (step m0 m1) Ok (Different m0 m1 Ok) (In z) m → (p : Pair) → In z p → m p ≤ mostTrace z
   map-near m c p i = ⊎-elim (λ e. omega (arith, e)) (λ e. omega (arith, e .1, differs-near p (e .0) i (c .dist p i (e .0) (e .1)))) (zero-or (m p))
 

@@ -4,3 +4,5 @@ pub mod Maps
 pub mod Pairs
 pub mod Sets
 pub mod Answers
+pub mod Watched
+pub mod Beside

@@ -7,3 +7,4 @@ pub mod Filling
 pub mod Tests
 pub mod Lists
 pub mod Computed
+pub mod Tables

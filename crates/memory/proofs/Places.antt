@@ -7,7 +7,7 @@ use mathlib.Core.List.{List, [], _∷_}
 use native.Mathlib.Omega.{arith}
 use native.Mathlib.Decide.{ℕ-discrete, decLt}
 use borrow.Author.Tests.{lt-ltb, le-ltb, eq-eqb, ne-eqb}
-use lib.Dec.{T, ltb, leb, eqb, leb→le, eqb→eq, leb·suc-suc}
+use lib.Dec.{T, ltb, leb, eqb, leb→le, ltb→lt, eqb→eq, leb·suc-suc}
 use lib.ListN.{length}
 use Rattle.memory.specs.Meaning.Orders.{NoneBefore, tableOrder, earlier}
 use Rattle.memory.specs.Meaning.Refusals.{First, earlierNumber}
@@ -15,10 +15,10 @@ use Rattle.memory.specs.Working.Lowest.{placeIn}
 use Rattle.memory.proofs.Orders.{Stands}
 use Rattle.memory.proofs.Computed.{every-at, and-left, and-right, or-split, or-right}
 
--- a test that computes on the order: no number but 19 and 20 is over 16
+-- a test that computes on the order: no number but 19 to 21 is over 16
 abbrev known : List ℕ → Bool
 known [] = true
-known (k ∷ ks) = (leb k 16 || (eqb k 19 || eqb k 20)) && known ks
+known (k ∷ ks) = (leb k 16 || (ltb 18 k && ltb k 22)) && known ks
 
 -- the earlier of two numbers by their places
 earlier-place : (ks : List ℕ) (a b : ℕ) → earlier ks a b ≡ cond (ltb (placeIn ks b) (placeIn ks a)) b a
@@ -57,28 +57,36 @@ unfolding placeIn
 place-low zero h l = absurd (omega arith)
 place-low (suc n) h l = omega (arith, eqb→eq (placeIn tableOrder (suc n)) n (every-at (λ i. eqb (placeIn tableOrder (suc i)) i) 9 n tt (omega arith)))
 
-pub place-high : (n : ℕ) → 9 < n → n ≤ 14 → n ≡ placeIn tableOrder n
+pub place-10 : (n : ℕ) → n ≡ 10 → 10 ≡ placeIn tableOrder n
 unfolding placeIn
-place-high n h l = sym (eqb→eq (placeIn tableOrder n) n (or-right (leb n 9) (eqb (placeIn tableOrder n) n) (every-at (λ i. leb i 9 || eqb (placeIn tableOrder i) i) 15 n tt (omega arith)) (λ t. omega (arith, leb→le n 9 t))))
+place-10 n e = rw e
 
-pub place-20 : (n : ℕ) → n ≡ 20 → 15 ≡ placeIn tableOrder n
+pub place-21 : (n : ℕ) → n ≡ 21 → 11 ≡ placeIn tableOrder n
+unfolding placeIn
+place-21 n e = rw e
+
+pub place-high : (n : ℕ) → 10 < n → n ≤ 14 → n + 1 ≡ placeIn tableOrder n
+unfolding placeIn
+place-high n h l = sym (eqb→eq (placeIn tableOrder n) (n + 1) (or-right (leb n 10) (eqb (placeIn tableOrder n) (n + 1)) (every-at (λ i. leb i 10 || eqb (placeIn tableOrder i) (i + 1)) 15 n tt (omega arith)) (λ t. omega (arith, leb→le n 10 t))))
+
+pub place-20 : (n : ℕ) → n ≡ 20 → 16 ≡ placeIn tableOrder n
 unfolding placeIn
 place-20 n e = rw e
 
-pub place-last : (n : ℕ) → 14 < n → n ≤ 16 → n + 1 ≡ placeIn tableOrder n
+pub place-last : (n : ℕ) → 14 < n → n ≤ 16 → n + 2 ≡ placeIn tableOrder n
 unfolding placeIn
-place-last n h l = sym (eqb→eq (placeIn tableOrder n) (n + 1) (or-right (leb n 14) (eqb (placeIn tableOrder n) (n + 1)) (every-at (λ i. leb i 14 || eqb (placeIn tableOrder i) (i + 1)) 17 n tt (omega arith)) (λ t. omega (arith, leb→le n 14 t))))
+place-last n h l = sym (eqb→eq (placeIn tableOrder n) (n + 2) (or-right (leb n 14) (eqb (placeIn tableOrder n) (n + 2)) (every-at (λ i. leb i 14 || eqb (placeIn tableOrder i) (i + 2)) 17 n tt (omega arith)) (λ t. omega (arith, leb→le n 14 t))))
 
-outside : (n : ℕ) (ks : List ℕ) → T (known ks) → 16 < n → (n ≡ 19 → ⊥) → (n ≡ 20 → ⊥) → length ks + n ≡ placeIn ks n
+outside : (n : ℕ) (ks : List ℕ) → T (known ks) → 16 < n → (18 < n → n < 22 → ⊥) → length ks + n ≡ placeIn ks n
 unfolding placeIn
-outside n [] t h l m = omega arith
-outside n (k ∷ ks) t h l m = rw (ne-eqb k n (λ e. other e (or-split (leb k 16) (eqb k 19 || eqb k 20) (and-left (leb k 16 || (eqb k 19 || eqb k 20)) (known ks) t)))) (omega (arith, outside n ks (and-right (leb k 16 || (eqb k 19 || eqb k 20)) (known ks) t) h l m))
+outside n [] t h l = omega arith
+outside n (k ∷ ks) t h l = rw (ne-eqb k n (λ e. other e (or-split (leb k 16) (ltb 18 k && ltb k 22) (and-left (leb k 16 || (ltb 18 k && ltb k 22)) (known ks) t)))) (omega (arith, outside n ks (and-right (leb k 16 || (ltb 18 k && ltb k 22)) (known ks) t) h l))
   where
-    other : k ≡ n → T (leb k 16) ⊎ T (eqb k 19 || eqb k 20) → ⊥
-    other e s = ⊎-elim (λ a. omega (arith, leb→le k 16 a)) (λ a. ⊎-elim (λ b. l (sym e ∙ eqb→eq k 19 b)) (λ b. m (sym e ∙ eqb→eq k 20 b)) (or-split (eqb k 19) (eqb k 20) a)) s
+    other : k ≡ n → T (leb k 16) ⊎ T (ltb 18 k && ltb k 22) → ⊥
+    other e s = ⊎-elim (λ a. omega (arith, leb→le k 16 a)) (λ a. l (omega (arith, ltb→lt 18 k (and-left (ltb 18 k) (ltb k 22) a))) (omega (arith, ltb→lt k 22 (and-right (ltb 18 k) (ltb k 22) a)))) s
 
-pub place-none : (n : ℕ) → 16 < n → (n ≡ 19 → ⊥) → (n ≡ 20 → ⊥) → 18 + n ≡ placeIn tableOrder n
-place-none n h l m = outside n tableOrder tt h l m
+pub place-none : (n : ℕ) → 16 < n → (18 < n → n < 22 → ⊥) → 19 + n ≡ placeIn tableOrder n
+place-none n h l = outside n tableOrder tt h l
 
 -- the first number that applies is the one whose place no other comes before: numbers need not rise
 module _ {P : ℕ → Type 0} where

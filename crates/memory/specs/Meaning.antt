@@ -3,3 +3,4 @@ pub mod Orders
 pub mod Refusals
 pub mod Slices
 pub mod Lists
+pub mod Tables

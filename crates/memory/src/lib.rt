@@ -38,6 +38,17 @@ pub fn clear_scratch(depth: &mut [u8], reach: &mut [u16])
     clear_numbers(reach);
 }
 
+// The three table slices of a design become 0 throughout.
+pub fn clear_table(next: &mut [u8], out: &mut [u8], seen: &mut [u8])
+    ensures { λ _. ⌜ Cleared (length (now (next .entry))) (now (next .exit)) ⌝ }
+    ensures { λ _. ⌜ Cleared (length (now (out .entry))) (now (out .exit)) ⌝ }
+    ensures { λ _. ⌜ Cleared (length (now (seen .entry))) (now (seen .exit)) ⌝ }
+{
+    clear_bytes(next);
+    clear_bytes(out);
+    clear_bytes(seen);
+}
+
 // The shorter of two lengths.
 pub fn shorter(one: usize, other: usize) -> usize
     ensures { λ r. ⌜ r ≡ min one other ⌝ }
@@ -64,8 +75,8 @@ pub fn earlier_number(a: u8, b: u8) -> u8
     a
 }
 
-// Where a number stands in the order of refusals: 19 comes between 9 and 10, 20 between 14 and 15, and a number without a place behind
-// all that have one.
+// Where a number stands in the order of refusals: 19 comes between 9 and 10, 21 between 10 and 11, 20 between 14 and 15, and a number
+// without a place behind all that have one.
 fn place(number: u8) -> usize
     requires { ⌜ 0 < number ⌝ }
     ensures { λ r. ⌜ r ≡ placeIn tableOrder number ⌝ }
@@ -73,17 +84,23 @@ fn place(number: u8) -> usize
     if number == 19 {
         return 9;
     }
+    if number == 21 {
+        return 11;
+    }
     if number == 20 {
-        return 15;
+        return 16;
     }
     if number > 16 {
-        return 18 + number as usize;
+        return 19 + number as usize;
     }
     if number > 14 {
+        return number as usize + 2;
+    }
+    if number > 10 {
         return number as usize + 1;
     }
-    if number > 9 {
-        return number as usize;
+    if number == 10 {
+        return 10;
     }
     number as usize - 1
 }

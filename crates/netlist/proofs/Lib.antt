@@ -7,3 +7,4 @@ pub mod Values
 pub mod Before
 pub mod Same
 pub mod Plain
+pub mod Watched

@@ -5,3 +5,4 @@ pub mod Loops
 pub mod Kept
 pub mod Nets
 pub mod Faults
+pub mod Watched

@@ -16,11 +16,11 @@ use Rattle.machine.specs.Meaning.Allowed.{WrongAllowed}
 use Rattle.machine.specs.Meaning.Faults.{TablesFault, VectorsFault, StateFault}
 use Rattle.table_faults.proofs.Refusals.{tables-place, vectors-place, vectors-some}
 
-place-14 : placeIn tableOrder 14 ≡ 14
+place-14 : placeIn tableOrder 14 ≡ 15
 place-14 = omega (arith, place-high 14 (omega arith) (omega arith))
 
 module _ {t : Tables} {room : ℕ} {p : Pair} where
-  pub state-place : {n : ℕ} → StateFault t room p n → placeIn tableOrder n ≤ 15
+  pub state-place : {n : ℕ} → StateFault t room p n → placeIn tableOrder n ≤ 16
   state-place (StateFault.call f) = vectors-place f
   state-place (StateFault.old-state h) = omega (arith, place-14)
   state-place (StateFault.new-state h) = omega (arith, place-14)

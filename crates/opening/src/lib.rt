@@ -3,9 +3,9 @@
 ghost use Prim.Native.Nat.{min};
 ghost use lib.ListN.{length};
 ghost use Rattle.memory.specs.Meaning.Refusals.{FirstOrNone};
-ghost use Rattle.machine.specs.Meaning.Tables.{bothTables};
 ghost use Rattle.machine.specs.Meaning.Faults.{VectorsFault, StateFault};
 ghost use Rattle.machine.specs.Meaning.Lent.{lentOf, leftOf};
+ghost use Rattle.table_faults.specs.Working.{ForTables};
 ghost use Rattle.opening.specs.Working.{Emptied};
 use machine::Pair;
 use machine::Sizes;
@@ -13,19 +13,19 @@ use machine::Sizes;
 // Begins a map: the first number that turns it away, or 0, and every lent slice cleared.
 pub fn begin_map(
     old_next: &[u8],
-    old_out: &[u8],
     new_next: &[u8],
-    new_out: &[u8],
     sizes: Sizes,
+    old_shown: usize,
+    new_shown: usize,
     depth: &mut [u8],
     reach: &mut [u16],
     mark: &mut [u8],
 ) -> u8
-    ensures { λ r. ⌜ FirstOrNone (VectorsFault (bothTables sizes (now («old_next» .entry)) (now («old_out» .entry)) (now («new_next» .entry)) (now («new_out» .entry))) (min (length (now (mark .entry))) (min (length (now (depth .entry))) (length (now (reach .entry)))))) r ⌝ }
+    ensures { λ r. ⌜ ForTables sizes (now («old_next» .entry)) (now («new_next» .entry)) «old_shown» «new_shown» (λ t. FirstOrNone (VectorsFault t (min (length (now (mark .entry))) (min (length (now (depth .entry))) (length (now (reach .entry)))))) r) ⌝ }
     ensures { λ r. ⌜ Emptied (lentOf (length (now (depth .entry))) (length (now (reach .entry))) (length (now (mark .entry)))) (leftOf (now (depth .exit)) (now (reach .exit)) (now (mark .exit))) ⌝ }
 {
     let room = memory::shorter(mark.len(), memory::shorter(depth.len(), reach.len()));
-    let n = table_faults::vectors_fault(old_next, old_out, new_next, new_out, sizes, room);
+    let n = table_faults::vectors_fault(old_next, new_next, sizes, old_shown, new_shown, room);
     clear_lent(depth, reach, mark);
     n
 }
@@ -33,20 +33,20 @@ pub fn begin_map(
 // Begins a call for a pair: the first of 11 to 14 and 20 that turns it away, or 0, and every lent slice cleared.
 pub fn begin_pair(
     old_next: &[u8],
-    old_out: &[u8],
     new_next: &[u8],
-    new_out: &[u8],
     sizes: Sizes,
+    old_shown: usize,
+    new_shown: usize,
     pair: Pair,
     depth: &mut [u8],
     reach: &mut [u16],
     list: &mut [u8],
 ) -> u8
-    ensures { λ r. ⌜ FirstOrNone (StateFault (bothTables sizes (now («old_next» .entry)) (now («old_out» .entry)) (now («new_next» .entry)) (now («new_out» .entry))) (min (length (now (depth .entry))) (length (now (reach .entry)))) pair) r ⌝ }
+    ensures { λ r. ⌜ ForTables sizes (now («old_next» .entry)) (now («new_next» .entry)) «old_shown» «new_shown» (λ t. FirstOrNone (StateFault t (min (length (now (depth .entry))) (length (now (reach .entry)))) pair) r) ⌝ }
     ensures { λ r. ⌜ Emptied (lentOf (length (now (depth .entry))) (length (now (reach .entry))) (length (now (list .entry)))) (leftOf (now (depth .exit)) (now (reach .exit)) (now (list .exit))) ⌝ }
 {
     let room = memory::shorter(depth.len(), reach.len());
-    let n = pair_fault(old_next, old_out, new_next, new_out, sizes, pair, room);
+    let n = pair_fault(old_next, new_next, sizes, old_shown, new_shown, pair, room);
     clear_lent(depth, reach, list);
     n
 }
@@ -62,16 +62,16 @@ fn clear_lent(depth: &mut [u8], reach: &mut [u16], written: &mut [u8])
 // The first of 11 to 14 and 20 that applies to a call for a pair, or 0.
 fn pair_fault(
     old_next: &[u8],
-    old_out: &[u8],
     new_next: &[u8],
-    new_out: &[u8],
     sizes: Sizes,
+    old_shown: usize,
+    new_shown: usize,
     pair: Pair,
     room: usize,
 ) -> u8
-    ensures { λ r. ⌜ FirstOrNone (StateFault (bothTables sizes (now («old_next» .entry)) (now («old_out» .entry)) (now («new_next» .entry)) (now («new_out» .entry))) room pair) r ⌝ }
+    ensures { λ r. ⌜ ForTables sizes (now («old_next» .entry)) (now («new_next» .entry)) «old_shown» «new_shown» (λ t. FirstOrNone (StateFault t room pair) r) ⌝ }
 {
-    let n = table_faults::call_fault(old_next, old_out, new_next, new_out, sizes, room);
+    let n = table_faults::call_fault(old_next, new_next, sizes, old_shown, new_shown, room);
     if n != 0 {
         return n;
     }

@@ -1,4 +1,4 @@
--- What a map that is right says: steps stay within the sizes, and the map to different outputs holds 0 for alike pairs alone.
+-- What a map that is right says: steps stay within the sizes, and the map to pairs that show a difference holds 0 for alike pairs alone.
 use mathlib.Core.Path.{_≡_}
 use mathlib.Core.List.{List}
 use Prim.Native.Nat.{ℕ}

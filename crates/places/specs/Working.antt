@@ -1,8 +1,8 @@
 -- Tables and maps that are long enough, places in them, numbers to take, and what is found by a map that is right. z are the sizes, next0
--- and next1 the tables of next states, out0 and out1 those of outputs, d a map.
+-- and next1 the tables of next states, l0 and l1 those of outputs or of watched values, d a map.
 --   move z next0 next1 p v   the pair after one step of both designs
 --   Few z                    the sizes are within the engine's limits
---   Nexts, Outs, Walk        tables and map are long enough, and tables lead to states
+--   Nexts, Ample, Walk       tables and map are long enough, and tables of next states lead to states
 --   PlaceOf s v n m r        r is the place of column v in row s of a table of n rows of m columns
 --   LowestBelow P n v        v is the lowest number below n that has P, or n where none has
 --   ChosenBelow s P n v      v is the number to take of those below n that have P, where s comes before, or n where none has
@@ -13,6 +13,7 @@
 --   MapFor t G d             the map d of the tables t is right for the set G
 --   ListTo .. d s p l        l is the list picked from the pair p to a pair for which the map d holds 1, where s comes before it
 --   Outcome N S l l′ r       what a call leaves in the slice l′, which held l, that seeks a list with S, of which there is none where N
+--   TraceOutcome, ListOutcome t p l l′ r   of a call that seeks the trace, or the list, of the pair p of the tables t
 use mathlib.Core.Path.{_≡_}
 use mathlib.Core.List.{List}
 use Prim.Native.Nat.{ℕ, _<_, _≤_, _+_, _*_}
@@ -23,7 +24,7 @@ use Rattle.machine.specs.declared.Prior.{Prior}
 use Rattle.machine.specs.declared.Sizes.{Sizes}
 use Rattle.machine.specs.Meaning.Lists.{Leads}
 use Rattle.machine.specs.Meaning.Pick.{IsPicked}
-use Rattle.machine.specs.Meaning.Tables.{Tables, entry, pairs, at, In, Ok}
+use Rattle.machine.specs.Meaning.Tables.{Tables, entry, pairs, at, In, Ok, AlikeIn, AlignableIn, TraceIn, ListIn}
 use Rattle.machine.specs.Working.Maps.{Complete, Chosen}
 use Rattle.machine.specs.Working.Pairs.{stepIn}
 
@@ -42,10 +43,10 @@ pub record Nexts (z : Sizes) (next0 next1 : List ℕ) : Type 0 where
   pub next-old : (i : ℕ) → i < z .old * z .vectors → getD next0 i 0 < z .old
   pub next-new : (i : ℕ) → i < z .new * z .vectors → getD next1 i 0 < z .new
 
-pub record Outs (z : Sizes) (out0 out1 : List ℕ) : Type 0 where
+pub record Ample (z : Sizes) (l0 l1 : List ℕ) : Type 0 where
   pub few : Few z
-  pub long-old : z .old * z .vectors ≤ length out0
-  pub long-new : z .new * z .vectors ≤ length out1
+  pub long-old : z .old * z .vectors ≤ length l0
+  pub long-new : z .new * z .vectors ≤ length l1
 
 pub record Walk (z : Sizes) (next0 next1 d : List ℕ) : Type 0 where
   pub nexts : Nexts z next0 next1
@@ -76,8 +77,9 @@ abbrev pub Ready : Sizes → List ℕ → List ℕ → List ℕ → Type 0
 Ready z next0 next1 d = Complete (move z next0 next1) (Ok z) (Ones z d) (In z) (at z d)
 
 pub record Good (t : Tables) : Type 0 where
-  pub nexts : Nexts (t .sizes) (t .old-next) (t .new-next)
-  pub outs : Outs (t .sizes) (t .old-out) (t .new-out)
+  pub nexts : Nexts (t .sizes) (t .old .next) (t .new .next)
+  pub outs : Ample (t .sizes) (t .old .out) (t .new .out)
+  pub seens : Ample (t .sizes) (t .old .seen) (t .new .seen)
 
 pub record MapFor (t : Tables) (Goal : Pair → Type 0) (d : List ℕ) : Type 0 where
   pub map : Complete (stepIn t) (Ok (t .sizes)) Goal (In (t .sizes)) (at (t .sizes) d)
@@ -90,3 +92,9 @@ pub data Outcome (Absent : Type 0) (Sought : List ℕ → Type 0) (list list′ 
   missing : Absent → list′ ≡ list → Outcome Absent Sought list list′ (Found.Refused 15)
   short : (Absent → ⊥) → (l : List ℕ) → Sought l → length list < length l → list′ ≡ list → Outcome Absent Sought list list′ (Found.Refused 16)
   steps : (Absent → ⊥) → (n : ℕ) → n ≤ length list → Sought (take n list′) → ((i : ℕ) → n ≤ i → getD list′ i 0 ≡ getD list i 0) → Outcome Absent Sought list list′ (Found.Steps n)
+
+abbrev pub TraceOutcome : Tables → Pair → List ℕ → List ℕ → Found → Type 0
+TraceOutcome t p list list′ r = Outcome (AlikeIn t p) (TraceIn t p) list list′ r
+
+abbrev pub ListOutcome : Tables → Pair → List ℕ → List ℕ → Found → Type 0
+ListOutcome t p list list′ r = Outcome (AlignableIn t p → ⊥) (ListIn t p) list list′ r

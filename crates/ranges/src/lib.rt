@@ -74,7 +74,7 @@ fn cell_net_over(d: Design, nets: usize) -> bool
 }
 
 // Whether one of the first n numbers of a list is no net.
-fn listed_net_over(list: &[u16], n: usize, nets: usize) -> bool
+pub fn listed_net_over(list: &[u16], n: usize, nets: usize) -> bool
     requires { ⌜ 0 < nets ⌝ }
     ensures { λ r. ⌜ Splits r ((k : ℕ) × (k < n) × (nets ≤ getD (now (list .entry)) k 0)) ((k : ℕ) → k < n → getD (now (list .entry)) k 0 < nets) ⌝ }
 {

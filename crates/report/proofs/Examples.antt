@@ -18,10 +18,10 @@ same-example = refl
 
 -- "P,M: Apart 0 0, trace 1, outputs 0 and 1; no pair alike": P shows its state and M its input
 abbrev pub p : Machine
-p = record { next = λ s v. v; out = λ s v. s }
+p = record { next = λ s v. v; out = λ s v. s; seen = λ s v. 0 }
 
 abbrev pub m : Machine
-m = record { next = λ s v. v; out = λ s v. v }
+m = record { next = λ s v. v; out = λ s v. v; seen = λ s v. 0 }
 
 pub apart-example : apartText p m (facts 0 0) (record { old = 0; new = 0 }) (1 ∷ []) ≡ bytes "INPUTS 1 OUTPUTS 1 LATCHES 1 1\nALIKE 0 OF 4\nALIGNABLE 0 OF 4\nAPART 0 0 1\n1 0 1\n"
 unfolding spelled places placesIn

@@ -4,6 +4,7 @@ mod lines;
 mod steps;
 
 ghost use Prim.Native.Nat.{_+_, _*_, _≤_};
+ghost use mathlib.Core.List.{[]};
 ghost use lib.ListN.{length, take};
 ghost use Rattle.machine.specs.Meaning.Tables.{bothTables};
 ghost use Rattle.pieces.specs.Meaning.Pieces.{Printed};
@@ -70,7 +71,7 @@ pub fn put_apart(
     requires { ⌜ Small sizes p ⌝ }
     requires { ⌜ n ≤ length (now list) ⌝ }
     requires { ⌜ 400 + 12 * n ≤ length (now text) ⌝ }
-    ensures { λ r. ⌜ Printed (apartIn (bothTables sizes (now («old_next» .entry)) (now («old_out» .entry)) (now («new_next» .entry)) (now («new_out» .entry))) facts p (take n (now (list .entry)))) (now (text .exit)) r ⌝ }
+    ensures { λ r. ⌜ Printed (apartIn (bothTables sizes (now («old_next» .entry)) (now («old_out» .entry)) [] (now («new_next» .entry)) (now («new_out» .entry)) []) facts p (take n (now (list .entry)))) (now (text .exit)) r ⌝ }
 {
     let head = lines::put_head(facts, text);
     let at = lines::put_pair(p, n, text, head);

@@ -1,6 +1,7 @@
 // The steps of a trace over the tables of both designs.
 ghost use Prim.Native.Nat.{_+_, _*_, _<_, _≤_};
 ghost use mathlib.Core.Path.{_≡_};
+ghost use mathlib.Core.List.{[]};
 ghost use lib.ListN.{length, take};
 ghost use Rattle.machine.specs.Meaning.Tables.{entry, bothTables};
 ghost use Rattle.places.specs.Working.{move};
@@ -27,7 +28,7 @@ pub fn put_steps(
     requires { ⌜ Small sizes p ⌝ }
     requires { ⌜ n ≤ length (now list) ⌝ }
     requires { ⌜ at + (12 * n + 51) ≤ length (now text) ⌝ }
-    ensures { λ r. ⌜ Put (12 * n) (shownIn (bothTables sizes (now («old_next» .entry)) (now («old_out» .entry)) (now («new_next» .entry)) (now («new_out» .entry))) p (take n (now (list .entry)))) at (now (text .entry)) (now (text .exit)) r ⌝ }
+    ensures { λ r. ⌜ Put (12 * n) (shownIn (bothTables sizes (now («old_next» .entry)) (now («old_out» .entry)) [] (now («new_next» .entry)) (now («new_out» .entry)) []) p (take n (now (list .entry)))) at (now (text .entry)) (now (text .exit)) r ⌝ }
 {
     let mut q = p;
     let mut end = at;

@@ -1,4 +1,4 @@
--- A map put into bytes or taken back is right for what it was right for, and the map to different outputs fits bytes.
+-- A map put into bytes or taken back is right for what it was right for, and the map to pairs that show a difference fits bytes.
 use mathlib.Core.Path.{_≡_, sym, ap, _∙_}
 use mathlib.Core.List.{List}
 use Prim.Native.Nat.{ℕ, _<_, _≤_}

@@ -1,7 +1,7 @@
 -- What holds of the plain machines holds of the designs that step as they do.
 use Prim.Native.Nat.{ℕ, _^_, _<_}
 use mathlib.Core.Path.{_≡_, sym, subst}
-use mathlib.Core.List.{List}
+use mathlib.Core.List.{List, []}
 use Rattle.netlist.specs.Meaning.Nets.{nextState}
 use Rattle.evaluator.proofs.Bounds.{next-state-lt}
 use Rattle.format.specs.Meaning.Format.{decoded}
@@ -12,18 +12,20 @@ use Rattle.machine.specs.Meaning.Machine.{Machine, Alike, Alignable, IsTrace, I
 use Rattle.machine.specs.Meaning.Tables.{In, Ok}
 use Rattle.machine.specs.Meaning.Verdict.{IsSame, IsApart}
 use Rattle.machine.specs.Working.Pairs.{SameMachine, SameSteps}
-use Rattle.machine.proofs.Transfer.{same-back, alike-there, alignable-there, trace-there, list-there, same-there, is-apart-there}
+use Rattle.machine.proofs.Transfer.{same-steps, same-back, alike-there, alignable-there, trace-there, list-there, same-there, is-apart-there}
 use Rattle.compare.specs.Meaning.Designs.{machineOf}
+use Rattle.compare.proofs.Watched.{design-unwatched}
 use Rattle.sheet.specs.Meaning.Sheet.{Drawn, old, new, sizes}
 use Rattle.sheet.proofs.Models.{two}
 
 abbrev pub model : (ℕ → ℕ → ℕ) → (ℕ → ℕ → ℕ) → Machine
-model next out = record { next = next; out = out }
+model next out = record { next = next; out = out; seen = λ s v. 0 }
 
-pub drawn-machine : {Fed : ℕ → Type 0} {b : List ℕ} {next out : ℕ → ℕ → ℕ} → ((v : ℕ) → Fed v → v < 2) → Drawn b next out → SameMachine Fed 2 (model next out) (machineOf (decoded b))
+pub drawn-machine : {Fed : ℕ → Type 0} {b : List ℕ} {next out : ℕ → ℕ → ℕ} → ((v : ℕ) → Fed v → v < 2) → Drawn b next out → SameMachine Fed 2 (model next out) (machineOf (decoded b) [])
 drawn-machine {b = b} few d = record {
   next = λ s v h o. d .steps s v h (few v o) .next;
   out = λ s v h o. d .steps s v h (few v o) .out;
+  seen = λ s v h o. sym (λ j. design-unwatched (decoded b) [] j .seen s v);
   stays = λ s v h o. subst (λ (n : ℕ). n < 2) (sym (d .steps s v h (few v o) .next)) (below s v);
 }
   where
@@ -38,7 +40,7 @@ module _ {a b : List ℕ} {next0 out0 next1 out1 : ℕ → ℕ → ℕ} (x : Dra
   m1 = model next1 out1
 
   agree : SameSteps two m0 m1 (old a b) (new a b)
-  agree = record { old = drawn-machine (λ v o. o .below) x; new = drawn-machine (λ v o. o .below) y }
+  agree = same-steps (drawn-machine (λ v o. o .below) x) (drawn-machine (λ v o. o .below) y)
 
   pub two-each : two ≡ sizes a b
   two-each = λ j. record { old = 2 ^ sym (x .latches) j; new = 2 ^ sym (y .latches) j; vectors = 2 ^ sym (x .inputs) j; allowed = everyVector (2 ^ sym (x .inputs) j) }

@@ -34,6 +34,7 @@ use Rattle.compare.specs.Meaning.Comparing.{CompareFault}
 use Rattle.compare.specs.Meaning.Demand.{Enough}
 use Rattle.compare.proofs.Agreement.{vectors-some}
 use Rattle.compare.proofs.Demand.{no-fault}
+use Rattle.compare.proofs.Watched.{nothing-watchable}
 use Rattle.report.proofs.Examples.{facts, same-example}
 use Rattle.align_report.specs.Meaning.Report.{oldBytes, newBytes, FactsOf, AnswersDesigns, Answers, ownTables, ownSlices}
 use Rattle.align_report.proofs.Determined.{closed}
@@ -67,24 +68,24 @@ flag zero zero h k = fails refl M.pq-open
 flag zero (suc zero) h k = holds refl (pq-set (pair 0 1) refl)
 flag zero (suc (suc n)) h k = absurd (omega arith)
 flag (suc zero) zero h k = holds refl (pq-set (pair 1 0) refl)
-flag (suc zero) (suc zero) h k = fails refl (λ w. omega (arith, w .agree [] tt 0 zero-fed))
+flag (suc zero) (suc zero) h k = fails refl (λ w. omega (arith, w .agree [] tt 0 zero-fed .out))
 flag (suc zero) (suc (suc n)) h k = absurd (omega arith)
 flag (suc (suc n)) s1 h k = absurd (omega arith)
 
-alike-2 : Counts (Alike (machineOf a) (machineOf b) (Ok (sizesOf a b every))) (sizesOf a b every) 2
+alike-2 : Counts (Alike (machineOf a []) (machineOf b []) (Ok (sizesOf a b every))) (sizesOf a b every) 2
 unfolding count
 alike-2 =
-    subst (λ (z : Sizes). Counts (Alike (machineOf a) (machineOf b) (Ok (sizesOf a b every))) z 2) (two-each p-drawn q-drawn)
+    subst (λ (z : Sizes). Counts (Alike (machineOf a []) (machineOf b []) (Ok (sizesOf a b every))) z 2) (two-each p-drawn q-drawn)
     (record { marks = 0 ∷ 1 ∷ 1 ∷ 0 ∷ []; each = λ p i. there p i (flag (p .old) (p .new) (i .in-old) (i .in-new)); ones = refl })
   where
-    there : (p : Pair) → In two p → {x : ℕ} → Flag (Alike takes inverts (Ok two) p) x → Flag (Alike (machineOf a) (machineOf b) (Ok (sizesOf a b every)) p) x
+    there : (p : Pair) → In two p → {x : ℕ} → Flag (Alike takes inverts (Ok two) p) x → Flag (Alike (machineOf a []) (machineOf b []) (Ok (sizesOf a b every)) p) x
     there p i (holds e h) = holds e (alike p-drawn q-drawn p i h)
     there p i (fails e n) = fails e (λ w. n (alike-back p-drawn q-drawn p i w))
 
-alignable-4 : Counts (Alignable (machineOf a) (machineOf b) (Ok (sizesOf a b every))) (sizesOf a b every) 4
+alignable-4 : Counts (Alignable (machineOf a []) (machineOf b []) (Ok (sizesOf a b every))) (sizesOf a b every) 4
 unfolding count
 alignable-4 =
-    subst (λ (z : Sizes). Counts (Alignable (machineOf a) (machineOf b) (Ok (sizesOf a b every))) z 4) (two-each p-drawn q-drawn)
+    subst (λ (z : Sizes). Counts (Alignable (machineOf a []) (machineOf b []) (Ok (sizesOf a b every))) z 4) (two-each p-drawn q-drawn)
     (record { marks = replicate 4 1; each = λ p i. holds (getD-replicate 4 (p .old * 2 + p .new) 1 0 (omega (arith, i .in-old, i .in-new))) (alignable p-drawn q-drawn p i (M.pq-same .all .all p i)); ones = refl })
 
 pq-facts : FactsOf a b every (facts 2 4)
@@ -108,7 +109,7 @@ all-zero n j = go (decLt j n)
     go (yes h) = getD-replicate {A = ℕ} n j 0 0 h
     go (no h) = List·getD-eq-default (zeros n) 0 (omega (arith, length-replicate {A = ℕ} n 0))
 
-decided : Decided (machineOf a) (machineOf b) (Ok (sizesOf a b every)) (sizesOf a b every) list (D.same 1)
+decided : Decided (machineOf a []) (machineOf b []) (Ok (sizesOf a b every)) (sizesOf a b every) list (D.same 1)
 decided = record { sought = pq-same; fits = omega arith; beyond = beyond }
   where
     beyond : ZeroFrom 1 list
@@ -121,16 +122,21 @@ old-accepted = image-accepted imageP (p-drawn .accepted)
 new-accepted : Accepted b
 new-accepted = image-accepted imageQ (q-drawn .accepted)
 
-enough : Enough a b every (ownSlices 32768)
-enough = record { scratch = omega (arith, pairs-most every old-accepted new-accepted); list = λ l w. omega (arith, ap length (written-unique (machineOf a) (machineOf b) (Ok (sizesOf a b every)) (sizesOf a b every) (closed a b every) l (0 ∷ []) w (W.same pq-same))) }
+enough : Enough a b [] [] every (ownSlices 32768)
+enough = record { scratch = omega (arith, pairs-most every old-accepted new-accepted); list = λ l w. omega (arith, ap length (written-unique (machineOf a []) (machineOf b []) (Ok (sizesOf a b every)) (sizesOf a b every) (closed a b every) l (0 ∷ []) w (W.same pq-same))) }
 
-compared : Free (CompareFault a b every ownTables (ownSlices 32768))
+compared : Free (CompareFault a b [] [] every ownTables (ownSlices 32768))
 compared =
-    no-fault a b every ownTables (ownSlices 32768) old-accepted new-accepted
-    (record { inputs = p-drawn .inputs ∙ sym (q-drawn .inputs); outputs = p-drawn .outputs ∙ sym (q-drawn .outputs) })
-    (ones-right (vectors-some a) refl)
-    (record { old-next = table-most old-accepted; old-out = table-most old-accepted; new-next = table-most new-accepted; new-out = table-most new-accepted })
-    enough
+    no-fault a b [] [] every ownTables (ownSlices 32768)
+    (record {
+      old = old-accepted;
+      new = new-accepted;
+      compatible = record { inputs = p-drawn .inputs ∙ sym (q-drawn .inputs); outputs = p-drawn .outputs ∙ sym (q-drawn .outputs) };
+      watchable = nothing-watchable a b;
+      vectors = ones-right (vectors-some a) refl;
+      tables = record { old = table-most old-accepted; new = table-most new-accepted };
+      room = enough;
+    })
 
 old-bytes : oldBytes (imageP ++ imageQ) ≡ imageP
 unfolding fieldAt horner bitAt

@@ -1,5 +1,5 @@
 -- The rounds and the longest trace are so.
-use Prim.Native.Nat.{ℕ, _<_}
+use Prim.Native.Nat.{ℕ, _<_, _-_}
 use mathlib.Core.Path.{_≡_, refl, sym, ap, _∙_, subst}
 use mathlib.Core.List.{List, [], _∷_, _++_}
 use native.Mathlib.Omega.{arith}
@@ -9,13 +9,13 @@ use Rattle.machine.specs.declared.Pair.{Pair}
 use Rattle.machine.specs.declared.Prior.{Prior}
 use Rattle.machine.specs.Meaning.Lists.{Each, run, Leads}
 use Rattle.machine.specs.Meaning.Pick.{Shortest, IsPicked}
-use Rattle.machine.specs.Meaning.Machine.{step, SameOut, Alike, Shows, ListAfter}
+use Rattle.machine.specs.Meaning.Machine.{Machine, step, Agrees, Alike, Shows, IsTrace, ListAfter}
 use Rattle.machine.specs.Meaning.Tables.{In, Ok}
 use Rattle.machine.specs.Meaning.Verdict.{LowestOpen, done, more, roundsTaken, IsSame}
 use Rattle.machine.proofs.Lists.{each-back}
 use Rattle.machine.proofs.Pairs.{alike-alignable}
 use Rattle.sheet.specs.Meaning.Toggles.{both}
-use Rattle.sheet.specs.Meaning.Lengths.{shines, turns, settles, climbs, sized, Lengths}
+use Rattle.sheet.specs.Meaning.Lengths.{shines, climbs, sized, Lengths}
 use Rattle.sheet.proofs.Short.{alike-by-set}
 use Rattle.sheet.proofs.Toggles.{rounds, two-taken}
 
@@ -41,14 +41,14 @@ module _ (s0 s1 : ℕ) where
     }
 
 shining : (p : Pair) → Alike shines shines (Ok (sized 1 1)) p
-shining p = record { agree = λ vs e v o. refl }
+shining p = record { agree = λ vs e v o. record { out = refl; seen = refl } }
 
 -- shines beside climbs: alike where climbs is at its last state
 up : (p : Pair) → p .new ≡ 2 → Alike shines climbs (Ok (sized 1 3)) p
-up = alike-by-set shines climbs (Ok (sized 1 3)) (λ q. q .new ≡ 2) (λ q v e o. rw e) (λ q v e o. rw e)
+up = alike-by-set shines climbs (Ok (sized 1 3)) (λ q. q .new ≡ 2) (λ q v e o. record { out = rw e; seen = refl }) (λ q v e o. rw e)
 
 not-up : (p : Pair) → p .new < 2 → Alike shines climbs (Ok (sized 1 3)) p → ⊥
-not-up p h a = omega (arith, h, a .agree [] tt 0 (fed 1 3))
+not-up p h a = omega (arith, h, a .agree [] tt 0 (fed 1 3) .out)
 
 abbrev Climbs : List ℕ → Type 0
 Climbs l = Leads (step shines climbs) (Ok (sized 1 3)) (Alike shines climbs (Ok (sized 1 3))) (both 0 0) l
@@ -82,27 +82,34 @@ one-taken : roundsTaken shines climbs (Ok (sized 1 3)) (sized 1 3) (climbed .rou
 unfolding climbed
 one-taken = refl
 
--- the outputs are 0 and 0, then 1 and 1, then 0 and 1
-abbrev Told : List ℕ → Type 0
-Told l = Shows turns settles (Ok (sized 2 2)) (both 0 0) l
+-- the states are 0 and 0, then 1 and 1, then 0 and 1, and an output or a watched value shows the state
+module _ (out seen : ℕ → ℕ) (tells : out 0 ≡ out 1 → seen 0 ≡ seen 1 → ⊥) where
+  abbrev turning : Machine
+  turning = record { next = λ s v. 1 - s; out = λ s v. out s; seen = λ s v. seen s }
 
-told-shortest : Shortest Told (0 ∷ 0 ∷ 0 ∷ [])
-told-shortest = record {
-  has = record { allowed = (fed 2 2, (fed 2 2, (fed 2 2, tt))); before = 0 ∷ 0 ∷ []; last = 0; splits = refl; differs = λ e. omega (arith, e) };
-  none = λ m w h. none (w .before) (w .last) (w .differs) (omega (arith, h, ap length (w .splits), length-append (w .before) (w .last ∷ [])));
-}
-  where
-    none : (b : List ℕ) (v : ℕ) → (SameOut turns settles (run (step turns settles) (both 0 0) b) v → ⊥) → length b < 2 → ⊥
-    none [] v d h = d refl
-    none (x ∷ []) v d h = d refl
-    none (x ∷ (y ∷ b)) v d h = omega arith
+  abbrev settling : Machine
+  settling = record { next = λ s v. 1; out = λ s v. out s; seen = λ s v. seen s }
+
+  none : (b : List ℕ) (v : ℕ) → (Agrees turning settling (run (step turning settling) (both 0 0) b) v → ⊥) → length b < 2 → ⊥
+  none [] v d h = d (record { out = refl; seen = refl })
+  none (x ∷ []) v d h = d (record { out = refl; seen = refl })
+  none (x ∷ (y ∷ b)) v d h = omega arith
+
+  three-steps : Shortest (Shows turning settling (Ok (sized 2 2)) (both 0 0)) (0 ∷ 0 ∷ 0 ∷ [])
+  three-steps = record {
+    has = record { allowed = (fed 2 2, (fed 2 2, (fed 2 2, tt))); before = 0 ∷ 0 ∷ []; last = 0; splits = refl; differs = λ e. tells (e .out) (e .seen) };
+    none = λ m w h. none (w .before) (w .last) (w .differs) (omega (arith, h, ap length (w .splits), length-append (w .before) (w .last ∷ [])));
+  }
+
+  pub third-step : IsTrace turning settling (Ok (sized 2 2)) (both 0 0) (0 ∷ 0 ∷ 0 ∷ [])
+  third-step = shortest-picked 2 2 (λ m w. w .allowed) three-steps
 
 pub lengths : Lengths
 lengths = record {
   no-round = record { same = record { all = record { all = λ p i. alike-alignable shines shines (Ok (sized 1 1)) p (shining p) }; rounds = done refl (λ p y. shining p) }; taken = refl };
   one-round = record { same = climbed; taken = one-taken };
   two-rounds = record { same = rounds; taken = two-taken };
-  longest = shortest-picked 2 2 (λ m w. w .allowed) told-shortest;
+  longest = third-step (λ s. s) (λ s. 0) (λ e f. omega (arith, e));
   most = refl;
   most-of-all = refl;
   most-rounds = refl;

@@ -9,3 +9,5 @@ pub mod Example
 pub mod Toggles
 pub mod Lengths
 pub mod Panels
+pub mod WatchedNumbers
+pub mod Watching

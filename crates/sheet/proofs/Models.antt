@@ -17,19 +17,19 @@ use Rattle.machine.proofs.Pairs.{alike-alignable, none-alignable}
 use Rattle.sheet.proofs.Short.{alike-by-set, trace-of-vector, list-lowest, same-by-lowest}
 
 abbrev pub takes : Machine
-takes = record { next = λ s v. v; out = λ s v. s }
+takes = record { next = λ s v. v; out = λ s v. s; seen = λ s v. 0 }
 
 abbrev pub inverts : Machine
-inverts = record { next = λ s v. 1 - v; out = λ s v. 1 - s }
+inverts = record { next = λ s v. 1 - v; out = λ s v. 1 - s; seen = λ s v. 0 }
 
 abbrev pub unseen : Machine
-unseen = record { next = λ s v. v; out = λ s v. v }
+unseen = record { next = λ s v. v; out = λ s v. v; seen = λ s v. 0 }
 
 abbrev pub holds : Machine
-holds = record { next = λ s v. s; out = λ s v. s }
+holds = record { next = λ s v. s; out = λ s v. s; seen = λ s v. 0 }
 
 abbrev pub empty : Machine
-empty = record { next = λ s v. 0; out = λ s v. 0 }
+empty = record { next = λ s v. 0; out = λ s v. 0; seen = λ s v. 0 }
 
 abbrev pub two : Sizes
 two = record { old = 2; new = 2; vectors = 2; allowed = everyVector 2 }
@@ -59,16 +59,16 @@ below-one q h = same-pair (omega arith) (omega arith)
 
 -- P and Q: alike where the one state is the other inverted
 pub pq-set : (p : Pair) → p .old + p .new ≡ 1 → Alike takes inverts (Ok two) p
-pq-set = alike-by-set takes inverts (Ok two) (λ q. q .old + q .new ≡ 1) (λ q v s o. omega (arith, s)) (λ q v s o. omega (arith, o .below))
+pq-set = alike-by-set takes inverts (Ok two) (λ q. q .old + q .new ≡ 1) (λ q v s o. record { out = omega (arith, s); seen = refl }) (λ q v s o. omega (arith, o .below))
 
 pub pq-alike : Alike takes inverts (Ok two) (pair 0 1)
 pq-alike = pq-set (pair 0 1) refl
 
 pub pq-open : Alike takes inverts (Ok two) (pair 0 0) → ⊥
-pq-open a = omega (arith, a .agree [] tt 0 zero-fed)
+pq-open a = omega (arith, a .agree [] tt 0 zero-fed .out)
 
 pub pq-trace : IsTrace takes inverts (Ok two) (pair 0 0) (0 ∷ [])
-pq-trace = trace-of-vector takes inverts (Ok two) (pair 0 0) 0 (record { ok = zero-fed; differs = λ e. omega (arith, e); below = λ w h. absurd (omega (arith, h)) })
+pq-trace = trace-of-vector takes inverts (Ok two) (pair 0 0) 0 (record { ok = zero-fed; differs = λ e. omega (arith, e .out); below = λ w h. absurd (omega (arith, h)) })
 
 pub pq-list : IsList takes inverts (Ok two) (pair 0 0) (0 ∷ [])
 pq-list = list-lowest takes inverts (Ok two) (pair 0 0) 0 zero-fed (λ w o. omega arith) pq-open pq-alike
@@ -78,31 +78,31 @@ pq-same = same-by-lowest takes inverts two 0 (pair 0 0) zero-fed (λ w o. omega 
 
 -- one design beside itself: alike where its states are equal
 pp-set : (p : Pair) → p .old ≡ p .new → Alike takes takes (Ok two) p
-pp-set = alike-by-set takes takes (Ok two) (λ q. q .old ≡ q .new) (λ q v s o. s) (λ q v s o. refl)
+pp-set = alike-by-set takes takes (Ok two) (λ q. q .old ≡ q .new) (λ q v s o. record { out = s; seen = refl }) (λ q v s o. refl)
 
 pub pp-same : IsSame takes takes (Ok two) two (0 ∷ [])
-pp-same = same-by-lowest takes takes two 0 (pair 0 1) zero-fed (λ w o. omega arith) (lowest-open takes takes (pair 0 1) (inside (lit< tt) (lit< tt)) (λ a. omega (arith, a .agree [] tt 0 zero-fed)) (λ q i h. subst (Alike takes takes (Ok two)) (below-one q h) (pp-set (pair 0 0) refl))) (λ q i. pp-set (pair 0 0) refl)
+pp-same = same-by-lowest takes takes two 0 (pair 0 1) zero-fed (λ w o. omega arith) (lowest-open takes takes (pair 0 1) (inside (lit< tt) (lit< tt)) (λ a. omega (arith, a .agree [] tt 0 zero-fed .out)) (λ q i h. subst (Alike takes takes (Ok two)) (below-one q h) (pp-set (pair 0 0) refl))) (λ q i. pp-set (pair 0 0) refl)
 
 -- P and M: P shows the same under both vectors, and M does not
 pub pm-none : (p : Pair) → Alike takes unseen (Ok two) p → ⊥
-pm-none p a = omega (arith, a .agree [] tt 0 zero-fed, a .agree [] tt 1 one-fed)
+pm-none p a = omega (arith, a .agree [] tt 0 zero-fed .out, a .agree [] tt 1 one-fed .out)
 
 pub pm-apart : IsApart takes unseen (Ok two) two (pair 0 0) (1 ∷ [])
 pm-apart = record {
   lowest = record { inside = inside (lit< tt) (lit< tt); apart = none-alignable takes unseen (Ok two) pm-none (pair 0 0); lower = λ q i h. absurd (omega (arith, h)) };
-  trace = trace-of-vector takes unseen (Ok two) (pair 0 0) 1 (record { ok = one-fed; differs = λ e. omega (arith, e); below = λ w h o. omega (arith, h) });
+  trace = trace-of-vector takes unseen (Ok two) (pair 0 0) 1 (record { ok = one-fed; differs = λ e. omega (arith, e .out); below = λ w h o. record { out = omega (arith, h); seen = refl } });
 }
 
 -- H and H: no list moves a pair
 hh-set : (p : Pair) → p .old ≡ p .new → Alignable holds holds (Ok two) p
-hh-set p e = alike-alignable holds holds (Ok two) p (alike-by-set holds holds (Ok two) (λ q. q .old ≡ q .new) (λ q v s o. s) (λ q v s o. s) p e)
+hh-set p e = alike-alignable holds holds (Ok two) p (alike-by-set holds holds (Ok two) (λ q. q .old ≡ q .new) (λ q v s o. record { out = s; seen = refl }) (λ q v s o. s) p e)
 
 held : (p : Pair) (l : List ℕ) → run (step holds holds) p l ≡ p
 held p [] = refl
 held p (v ∷ l) = held p l
 
 pub hh-not : (p : Pair) → (p .old ≡ p .new → ⊥) → Alignable holds holds (Ok two) p → ⊥
-hh-not p n a = n (subst (Alike holds holds (Ok two)) (held p (a .list)) (a .leads .ends) .agree [] tt 0 zero-fed)
+hh-not p n a = n (subst (Alike holds holds (Ok two)) (held p (a .list)) (a .leads .ends) .agree [] tt 0 zero-fed .out)
 
 pub hh-0 : Alignable holds holds (Ok two) (pair 0 0)
 hh-0 = hh-set (pair 0 0) refl
@@ -113,12 +113,12 @@ hh-1 = hh-set (pair 1 1) refl
 pub hh-apart : IsApart holds holds (Ok two) two (pair 0 1) (0 ∷ [])
 hh-apart = record {
   lowest = record { inside = inside (lit< tt) (lit< tt); apart = hh-not (pair 0 1) (λ e. omega (arith, e)); lower = λ q i h. subst (Alignable holds holds (Ok two)) (below-one q h) hh-0 };
-  trace = trace-of-vector holds holds (Ok two) (pair 0 1) 0 (record { ok = zero-fed; differs = λ e. omega (arith, e); below = λ w h. absurd (omega (arith, h)) });
+  trace = trace-of-vector holds holds (Ok two) (pair 0 1) 0 (record { ok = zero-fed; differs = λ e. omega (arith, e .out); below = λ w h. absurd (omega (arith, h)) });
 }
 
 -- no flip-flop, no input, no output: the one pair is alike
 empty-alike : (p : Pair) → Alike empty empty (Ok one) p
-empty-alike p = record { agree = λ vs e v o. refl }
+empty-alike p = record { agree = λ vs e v o. record { out = refl; seen = refl } }
 
 pub empty-same : IsSame empty empty (Ok one) one []
 empty-same = record { all = record { all = λ p i. alike-alignable empty empty (Ok one) p (empty-alike p) }; rounds = done refl (λ p y. empty-alike p) }

@@ -14,7 +14,7 @@ use Rattle.machine.specs.Working.Pairs.{SameSteps}
 use Rattle.machine.proofs.Allowed.{wrong-none, wrong-beyond, right-within}
 use Rattle.machine.proofs.Lists.{run-in}
 use Rattle.machine.proofs.Pairs.{alike-alignable}
-use Rattle.machine.proofs.Transfer.{same-back, alike-there, same-there}
+use Rattle.machine.proofs.Transfer.{same-steps, same-back, alike-there, same-there}
 use Rattle.sheet.specs.Meaning.Sheet.{imageP, imageM, old, new}
 use Rattle.sheet.specs.Meaning.Toggles.{merged, merges, wakes, both}
 use Rattle.sheet.specs.Meaning.Panels.{few, three, Panels}
@@ -31,7 +31,7 @@ two-few : (n : ℕ) → two n ≡ few n
 two-few n = λ j. record { old = 2 ^ sym (p-drawn .latches) j; new = 2 ^ sym (m-drawn .latches) j; vectors = 2 ^ sym (p-drawn .inputs) j; allowed = n }
 
 agree : (n : ℕ) → SameSteps (two n) takes unseen (old imageP imageM) (new imageP imageM)
-agree n = record { old = drawn-machine (λ v o. o .below) p-drawn; new = drawn-machine (λ v o. o .below) m-drawn }
+agree n = same-steps (drawn-machine (λ v o. o .below) p-drawn) (drawn-machine (λ v o. o .below) m-drawn)
 
 fed : Ok (two 1) 0
 fed = record { below = lit< tt; named = record { set = refl } }
@@ -51,22 +51,22 @@ only-1 (suc (suc v)) o = absurd (omega (arith, o .below))
 
 -- under 0 alone P shows its state, which becomes 0, and M shows 0; under 1 alone it is 1 for both
 shows-0 : (p : Pair) → p .old ≡ 0 → Alike takes unseen (Ok (two 1)) p
-shows-0 = alike-by-set takes unseen (Ok (two 1)) (λ q. q .old ≡ 0) (λ q v s o. omega (arith, s, only v o)) (λ q v s o. only v o)
+shows-0 = alike-by-set takes unseen (Ok (two 1)) (λ q. q .old ≡ 0) (λ q v s o. record { out = omega (arith, s, only v o); seen = refl }) (λ q v s o. only v o)
 
 shows-1 : (p : Pair) → p .old ≡ 1 → Alike takes unseen (Ok (two 2)) p
-shows-1 = alike-by-set takes unseen (Ok (two 2)) (λ q. q .old ≡ 1) (λ q v s o. omega (arith, s, only-1 v o)) (λ q v s o. only-1 v o)
+shows-1 = alike-by-set takes unseen (Ok (two 2)) (λ q. q .old ≡ 1) (λ q v s o. record { out = omega (arith, s, only-1 v o); seen = refl }) (λ q v s o. only-1 v o)
 
 open-0 : LowestOpen takes unseen (Ok (two 1)) (two 1) [] (both 1 0)
 open-0 = record {
   may = record { from = both 1 0; inside = record { in-old = lit< tt; in-new = lit< tt }; arrives = refl };
-  open′ = λ a. omega (arith, a .agree [] tt 0 fed);
+  open′ = λ a. omega (arith, a .agree [] tt 0 fed .out);
   lower = λ q y h. shows-0 q (omega (arith, h));
 }
 
 open-1 : LowestOpen takes unseen (Ok (two 2)) (two 2) [] (both 0 0)
 open-1 = record {
   may = record { from = both 0 0; inside = record { in-old = lit< tt; in-new = lit< tt }; arrives = refl };
-  open′ = λ a. omega (arith, a .agree [] tt 1 fed-1);
+  open′ = λ a. omega (arith, a .agree [] tt 1 fed-1 .out);
   lower = λ q y h. absurd (omega (arith, h));
 }
 
@@ -85,10 +85,10 @@ second : Ok (three 6) 1
 second = record { below = lit< tt; named = record { set = refl } }
 
 equal : (p : Pair) → p .old ≡ p .new → Alike merges merges (Ok (three 6)) p
-equal = alike-by-set merges merges (Ok (three 6)) (λ q. q .old ≡ q .new) (λ q v e o. e) (λ q v e o. subst (λ (s : ℕ). merged (q .old) v ≡ merged s v) e refl)
+equal = alike-by-set merges merges (Ok (three 6)) (λ q. q .old ≡ q .new) (λ q v e o. record { out = e; seen = refl }) (λ q v e o. subst (λ (s : ℕ). merged (q .old) v ≡ merged s v) e refl)
 
 lowest-list : IsList merges merges (Ok (three 6)) (both 2 3) (1 ∷ [])
-lowest-list = list-lowest merges merges (Ok (three 6)) (both 2 3) 1 second some (λ a. omega (arith, a .agree [] tt 1 second)) (equal (both 3 3) refl)
+lowest-list = list-lowest merges merges (Ok (three 6)) (both 2 3) 1 second some (λ a. omega (arith, a .agree [] tt 1 second .out)) (equal (both 3 3) refl)
 
 -- merges under vector 0 alone: the states 0 and 1, and 2 and 1, lead to each other
 zeroth : Ok (three 1) 0
@@ -111,8 +111,8 @@ turns q v (inr a, b) o = rw (zero-only v o) (inl (omega (arith, a)), omega (arit
 
 never : (q : Pair) → Turns q → Alike merges merges (Ok (three 1)) q → ⊥
 unfolding Turns
-never q (inl a, b) w = omega (arith, w .agree [] tt 0 zeroth, a, b)
-never q (inr a, b) w = omega (arith, w .agree [] tt 0 zeroth, a, b)
+never q (inl a, b) w = omega (arith, w .agree [] tt 0 zeroth .out, a, b)
+never q (inr a, b) w = omega (arith, w .agree [] tt 0 zeroth .out, a, b)
 
 start : Turns (both 0 1)
 unfolding Turns
@@ -123,9 +123,9 @@ apart-by-0 = record {
   lowest = record {
     inside = record { in-old = lit< tt; in-new = lit< tt };
     apart = λ a. never _ (run-in (step merges merges) (Ok (three 1)) Turns turns (both 0 1) (a .list) start (a .leads .allowed)) (a .leads .ends);
-    lower = λ q i h. alike-alignable merges merges (Ok (three 1)) q (alike-by-set merges merges (Ok (three 1)) (λ p. p .old ≡ p .new) (λ p v e o. e) (λ p v e o. subst (λ (s : ℕ). merged (p .old) v ≡ merged s v) e refl) q (omega (arith, h)));
+    lower = λ q i h. alike-alignable merges merges (Ok (three 1)) q (alike-by-set merges merges (Ok (three 1)) (λ p. p .old ≡ p .new) (λ p v e o. record { out = e; seen = refl }) (λ p v e o. subst (λ (s : ℕ). merged (p .old) v ≡ merged s v) e refl) q (omega (arith, h)));
   };
-  trace = trace-of-vector merges merges (Ok (three 1)) (both 0 1) 0 (record { ok = zeroth; differs = λ e. omega (arith, e); below = λ w h. absurd (omega (arith, h)) });
+  trace = trace-of-vector merges merges (Ok (three 1)) (both 0 1) 0 (record { ok = zeroth; differs = λ e. omega (arith, e .out); below = λ w h. absurd (omega (arith, h)) });
 }
 
 third : Ok (three 4) 2
@@ -137,7 +137,7 @@ last (suc zero) h o = omega (arith, o .named .set)
 last (suc (suc v)) h o = omega arith
 
 lowest-trace : IsTrace wakes wakes (Ok (three 4)) (both 2 3) (2 ∷ [])
-lowest-trace = trace-of-vector wakes wakes (Ok (three 4)) (both 2 3) 2 (record { ok = third; differs = λ e. omega (arith, e); below = λ w h o. absurd (last w h o) })
+lowest-trace = trace-of-vector wakes wakes (Ok (three 4)) (both 2 3) 2 (record { ok = third; differs = λ e. omega (arith, e .out); below = λ w h o. absurd (last w h o) })
 
 pub panels : Panels
 panels = record {

@@ -30,15 +30,15 @@ fed = record { below = lit< tt; named = record { set = refl } }
 
 -- outputs that agree now and after one step are those of equal states
 equal-states : (p : Pair) → In four p → A shifts shifts (Ok four) 1 p → p .old ≡ p .new
-equal-states p i a = omega (arith, i .in-old, i .in-new, a .0 0 fed, a .1 0 fed 0 fed)
+equal-states p i a = omega (arith, i .in-old, i .in-new, a .0 0 fed .out, a .1 0 fed 0 fed .out)
 
 -- and from equal states they agree for ever
 agree : (p : Pair) → p .old ≡ p .new → A shifts shifts (Ok four) 2 p
-agree p e = (λ v o. rw e, λ v o. (λ w q. rw e, λ w q x y. rw e))
+agree p e = (λ v o. record { out = rw e; seen = refl }, λ v o. (λ w q. record { out = rw e; seen = refl }, λ w q x y. record { out = rw e; seen = refl }))
 
 -- round 1 drops the pair of states 0 and 2
 drops : Unchanged (A shifts shifts (Ok four)) (In four) 0 → ⊥
-drops u = omega (arith, u (record { old = 0; new = 2 }) (record { in-old = lit< tt; in-new = lit< tt }) .0 (λ v o. refl) .1 0 fed 0 fed)
+drops u = omega (arith, u (record { old = 0; new = 2 }) (record { in-old = lit< tt; in-new = lit< tt }) .0 (λ v o. record { out = refl; seen = refl }) .1 0 fed 0 fed .out)
 
 second-round : FirstUnchanged (A shifts shifts (Ok four)) (In four) 2
 second-round = record {

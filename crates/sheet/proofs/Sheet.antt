@@ -9,7 +9,7 @@ use Rattle.format.specs.Meaning.Format.{decoded}
 use Rattle.image.proofs.Empty.{empty-read}
 use Rattle.machine.specs.Meaning.Tables.{pairs, Ok}
 use Rattle.machine.specs.Working.Pairs.{SameMachine}
-use Rattle.machine.proofs.Transfer.{same-there}
+use Rattle.machine.proofs.Transfer.{same-steps, same-there}
 use Rattle.compare.specs.Meaning.Designs.{machineOf}
 use Rattle.sheet.specs.Meaning.Sheet.{imageH, imageEmpty, FoundSame, TwoOfFour, BenchSheet}
 use Rattle.sheet.proofs.Images.{p-drawn, q-drawn, m-drawn, h-drawn, ring-accepted, ring-value, pad-seven}
@@ -17,13 +17,13 @@ use Rattle.sheet.proofs.Models.{empty, one, pair, inside}
 use Rattle.sheet.proofs.Models as M
 use Rattle.sheet.proofs.Carried.{two-each, alike, alike-back, alignable, alignable-back, trace, list, same, apart}
 
-empty-machine : SameMachine (Ok one) 1 empty (machineOf (decoded imageEmpty))
+empty-machine : SameMachine (Ok one) 1 empty (machineOf (decoded imageEmpty) [])
 unfolding decoded fieldAt horner bitAt
-empty-machine = record { next = λ s v h o. refl; out = λ s v h o. refl; stays = λ s v h o. lit< tt }
+empty-machine = record { next = λ s v h o. refl; out = λ s v h o. refl; seen = λ s v h o. refl; stays = λ s v h o. lit< tt }
 
 empty-same : FoundSame imageEmpty imageEmpty []
 unfolding decoded fieldAt horner bitAt
-empty-same = same-there (record { old = empty-machine; new = empty-machine }) [] M.empty-same
+empty-same = same-there (same-steps empty-machine empty-machine) [] M.empty-same
 
 hh-two : TwoOfFour imageH imageH
 hh-two = record {

@@ -28,10 +28,10 @@ fed-1 = record { below = lit< tt; named = record { set = refl } }
 
 -- pairs of equal states are alike, and no others
 equal-alike : (p : Pair) → p .old ≡ p .new → Alike merges merges (Ok fours) p
-equal-alike = alike-by-set merges merges (Ok fours) (λ q. q .old ≡ q .new) (λ q v e o. e) (λ q v e o. ap (λ (s : ℕ). merged s v) e)
+equal-alike = alike-by-set merges merges (Ok fours) (λ q. q .old ≡ q .new) (λ q v e o. record { out = e; seen = refl }) (λ q v e o. ap (λ (s : ℕ). merged s v) e)
 
 unequal : (p : Pair) → (p .old ≡ p .new → ⊥) → Alike merges merges (Ok fours) p → ⊥
-unequal p n a = n (a .agree [] tt 0 fed-0)
+unequal p n a = n (a .agree [] tt 0 fed-0 .out)
 
 aligns-one : (p : Pair) (v : ℕ) → Ok fours v → merged (p .old) v ≡ merged (p .new) v → Aligns p (v ∷ [])
 aligns-one p v o e = record { allowed = (o, tt); ends = equal-alike (step merges merges p v) e }
@@ -136,13 +136,13 @@ abbrev Splits : List ℕ → Type 0
 Splits l = Leads (step wakes wakes) (Ok fours) (Different wakes wakes (Ok fours)) (both 0 1) l
 
 trace : IsTrace wakes wakes (Ok fours) (both 0 1) (1 ∷ 1 ∷ [])
-trace = trace-of-first wakes wakes (Ok fours) (both 0 1) (1 ∷ []) 1 (picked-first (picked-one (λ w. now w) (record { allowed = (fed-1, tt); ends = record { vector = 1; allowed = fed-1; differs = λ e. omega (arith, e) } }) (takes-start low))) (chosen-kept refl (fed-1, λ e. omega (arith, e)))
+trace = trace-of-first wakes wakes (Ok fours) (both 0 1) (1 ∷ []) 1 (picked-first (picked-one (λ w. now w) (record { allowed = (fed-1, tt); ends = record { vector = 1; allowed = fed-1; differs = λ e. omega (arith, e .out) } }) (takes-start low))) (chosen-kept refl (fed-1, λ e. omega (arith, e .out)))
   where
     now : Splits [] → ⊥
-    now w = w .ends .differs refl
+    now w = w .ends .differs (record { out = refl; seen = refl })
 
     low : (w : ℕ) → Splits (w ∷ []) → 1 ≤ w
-    low zero q = absurd (q .ends .differs refl)
+    low zero q = absurd (q .ends .differs (record { out = refl; seen = refl }))
     low (suc w) q = omega arith
 
 pub toggles : Toggles
@@ -155,5 +155,5 @@ toggles = record {
   own = own;
   rounds = rounds;
   trace = trace;
-  lower-shows = record { allowed = (fed-1, (fed-0, tt)); before = 1 ∷ []; last = 0; splits = refl; differs = λ e. omega (arith, e) };
+  lower-shows = record { allowed = (fed-1, (fed-0, tt)); before = 1 ∷ []; last = 0; splits = refl; differs = λ e. omega (arith, e .out) };
 }

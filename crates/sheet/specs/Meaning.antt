@@ -5,3 +5,4 @@ pub mod Example
 pub mod Toggles
 pub mod Lengths
 pub mod Panels
+pub mod Watching

@@ -9,16 +9,17 @@ use lib.Pow.{pow-pos}
 use lib.ListN.{length, getD}
 use lib.Seq.{ext-getD}
 use Rattle.memory.specs.Meaning.Refusals.{Reply, answer, refusal}
-use Rattle.memory.specs.Meaning.Slices.{ZeroFrom}
 use Rattle.memory.proofs.Refusals.{reply-unique, keeps-unique}
 use Rattle.memory.proofs.Slices.{zero-unique}
 use Rattle.netlist.specs.declared.Design.{Design}
 use Rattle.netlist.specs.Meaning.Nets.{statesOf, vectorsOf, nextState, outputs}
+use Rattle.netlist.specs.Meaning.Watched.{watched}
+use Rattle.memory.specs.Meaning.Tables.{Table, Lengths, lengthsOf, shortestOf, ZeroTable}
 use Rattle.simulator.specs.declared.Clocked.{Clocked}
 use Rattle.simulator.specs.declared.Tabulated.{Tabulated}
 use Rattle.simulator.specs.declared.TabulatedBoth.{TabulatedBoth}
 use Rattle.simulator.specs.Meaning.Clock.{StepValues, clockReply, ClockFault, IsStep, Clocks}
-use Rattle.simulator.specs.Meaning.Tables.{sizeOf, HoldsDesign, TableSizes, BothSizes, tableReply, bothReply, TableFault, BothFault, IsTable, AreTables, ZeroTables, Tabulates, TabulatesBoth}
+use Rattle.simulator.specs.Meaning.Tables.{sizeOf, HoldsEach, HoldsDesign, TableSizes, BothSizes, tableReply, bothReply, TableFault, BothFault, IsTable, AreTables, Tabulates, TabulatesBoth}
 
 -- what can be undone gives different results of different things
 injective : {A B : Type 0} (f : A → B) (g : B → A) → ((a : A) → g (f a) ≡ a) → {a b : A} → f a ≡ f b → a ≡ b
@@ -42,32 +43,35 @@ clock-unique d s v r t p q =
     one a b x y = ap₂ (λ (n o : ℕ). record { next = n; out = o }) (x .next ∙ sym (y .next)) (x .out ∙ sym (y .out))
 
 -- a table that holds every clock is fixed below its size, and zero beyond
-entry-unique : (d : Design) (f : ℕ → ℕ → ℕ) (a b : List ℕ) → length a ≡ length b
-    → ((s v : ℕ) → s < statesOf d → v < vectorsOf d → getD a (s * vectorsOf d + v) 0 ≡ f s v)
-    → ((s v : ℕ) → s < statesOf d → v < vectorsOf d → getD b (s * vectorsOf d + v) 0 ≡ f s v)
-    → ZeroFrom (sizeOf d) a → ZeroFrom (sizeOf d) b → a ≡ b
-entry-unique d f a b e p q x y = ext-getD 0 a b e (λ k h. go k (decLt k (sizeOf d)))
+each-unique : (d : Design) (f : ℕ → ℕ → ℕ) (a b : List ℕ) → length a ≡ length b → HoldsEach d f a → HoldsEach d f b → a ≡ b
+each-unique d f a b e p q = ext-getD 0 a b e (λ k h. go k (decLt k (sizeOf d)))
   where
     go : (k : ℕ) → Dec (k < sizeOf d) → getD a k 0 ≡ getD b k 0
     go k (yes h) =
         let i : k / vectorsOf d < statesOf d = div-lt-iff-lt-mul (pow-pos (d .inputs)) .1 h in
         let j : k % vectorsOf d < vectorsOf d = mod-lt k (pow-pos (d .inputs)) in
         let w : k / vectorsOf d * vectorsOf d + k % vectorsOf d ≡ k = div-add-mod' k (vectorsOf d) in
-        subst (λ (n : ℕ). getD a n 0 ≡ getD b n 0) w (p _ _ i j ∙ sym (q _ _ i j))
-    go k (no h) = x k (omega arith) ∙ sym (y k (omega arith))
+        subst (λ (n : ℕ). getD a n 0 ≡ getD b n 0) w (p .entry _ _ i j ∙ sym (q .entry _ _ i j))
+    go k (no h) = p .beyond k (omega arith) ∙ sym (q .beyond k (omega arith))
 
--- the slices of a design
-abbrev pub Slices : Type 0
-Slices = List ℕ × List ℕ
+-- the slices of a design, each as long as the other
+module _ (n : Lengths) (t u : Table) (p : lengthsOf t ≡ n) (q : lengthsOf u ≡ n) where
+  abbrev long : lengthsOf t ≡ lengthsOf u
+  long = p ∙ sym q
 
-module _ (l k : Slices) (e : length (l .0) ≡ length (k .0)) (f : length (l .1) ≡ length (k .1)) where
-  pub holds-unique : (d : Design) → HoldsDesign d (l .0) (l .1) → HoldsDesign d (k .0) (k .1) → l ≡ k
-  holds-unique d p q =
-      ap₂ (λ (x y : List ℕ). (x, y)) (entry-unique d (nextState d) (l .0) (k .0) e (p .next-entry) (q .next-entry) (p .beyond-next) (q .beyond-next))
-      (entry-unique d (outputs d) (l .1) (k .1) f (p .out-entry) (q .out-entry) (p .beyond-out) (q .beyond-out))
+  pub holds-unique : (d : Design) (w : List ℕ) → HoldsDesign d w t → HoldsDesign d w u → t ≡ u
+  holds-unique d w x y =
+      let a = each-unique d (nextState d) (t .next) (u .next) (λ j. long j .next) (x .next) (y .next) in
+      let b = each-unique d (outputs d) (t .out) (u .out) (λ j. long j .out) (x .out) (y .out) in
+      let c = each-unique d (watched d w) (t .seen) (u .seen) (λ j. long j .seen) (x .seen) (y .seen) in
+      λ j. record { next = a j; out = b j; seen = c j }
 
-  pub cleared-unique : ZeroTables (l .0) (l .1) → ZeroTables (k .0) (k .1) → l ≡ k
-  cleared-unique p q = ap₂ (λ (x y : List ℕ). (x, y)) (zero-unique (l .0) (k .0) e (p .zero-next) (q .zero-next)) (zero-unique (l .1) (k .1) f (p .zero-out) (q .zero-out))
+  pub cleared-unique : ZeroTable t → ZeroTable u → t ≡ u
+  cleared-unique x y =
+      let a = zero-unique (t .next) (u .next) (λ j. long j .next) (x .next) (y .next) in
+      let b = zero-unique (t .out) (u .out) (λ j. long j .out) (x .out) (y .out) in
+      let c = zero-unique (t .seen) (u .seen) (λ j. long j .seen) (x .seen) (y .seen) in
+      λ j. record { next = a j; out = b j; seen = c j }
 
 tabulated : Reply TableSizes → Tabulated
 tabulated (answer a) = Tabulated.Table (a .states) (a .vectors)
@@ -78,20 +82,14 @@ unfolding tabulated
 tabulated-back (Tabulated.Table a b) = refl
 tabulated-back (Tabulated.Refused n) = refl
 
-pub table-unique : (d : Design) (n m : ℕ) (r t : Tabulated) (l k : Slices) → Tabulates d n m r (l .0) (l .1) → Tabulates d n m t (k .0) (k .1) → (r ≡ t) × (l ≡ k)
-table-unique d n m r t l k p q =
-    let both = keeps-unique (TableFault d n m) (λ (x : Slices). IsTable d (x .0) (x .1)) (λ (x : Slices). ZeroTables (x .0) (x .1)) l k one (cleared-unique l k e f) (tableReply r) (tableReply t) (p .keeps) (q .keeps) in
+pub table-unique : (d : Design) (w : List ℕ) (n : Lengths) (r q : Tabulated) (t u : Table) → Tabulates d w n r t → Tabulates d w n q u → (r ≡ q) × (t ≡ u)
+table-unique d w n r q t u g h =
+    let both = keeps-unique (TableFault d w (shortestOf n)) (IsTable d w) ZeroTable t u one (cleared-unique n t u (g .room) (h .room)) (tableReply r) (tableReply q) (g .keeps) (h .keeps) in
     (injective tableReply tabulated tabulated-back (both .0), both .1)
   where
-    e : length (l .0) ≡ length (k .0)
-    e = p .size-next ∙ sym (q .size-next)
-
-    f : length (l .1) ≡ length (k .1)
-    f = p .size-out ∙ sym (q .size-out)
-
-    one : (a b : TableSizes) → IsTable d (l .0) (l .1) a → IsTable d (k .0) (k .1) b → (a ≡ b) × (l ≡ k)
+    one : (a b : TableSizes) → IsTable d w t a → IsTable d w u b → (a ≡ b) × (t ≡ u)
     one a b x y =
-        (ap₂ (λ (u w : ℕ). record { states = u; vectors = w }) (x .states ∙ sym (y .states)) (x .vectors ∙ sym (y .vectors)), holds-unique l k e f d (x .holds) (y .holds))
+        (ap₂ (λ (u w : ℕ). record { states = u; vectors = w }) (x .states ∙ sym (y .states)) (x .vectors ∙ sym (y .vectors)), holds-unique n t u (g .room) (h .room) d w (x .holds) (y .holds))
 
 tabulated-both : Reply BothSizes → TabulatedBoth
 tabulated-both (answer a) = TabulatedBoth.Both (a .old) (a .new) (a .vectors)
@@ -102,37 +100,18 @@ unfolding tabulated-both
 both-back (TabulatedBoth.Both a b c) = refl
 both-back (TabulatedBoth.Refused n) = refl
 
-pub both-unique : (a b : Design) (n0 m0 n1 m1 : ℕ) (r t : TabulatedBoth) (l0 l1 k0 k1 : Slices)
-    → TabulatesBoth a b n0 m0 n1 m1 r (l0 .0) (l0 .1) (l1 .0) (l1 .1) → TabulatesBoth a b n0 m0 n1 m1 t (k0 .0) (k0 .1) (k1 .0) (k1 .1)
-    → (r ≡ t) × ((l0 ≡ k0) × (l1 ≡ k1))
-both-unique a b n0 m0 n1 m1 r t l0 l1 k0 k1 p q =
-    let both = keeps-unique (BothFault a b n0 m0 n1 m1) Answers Clear (l0, l1) (k0, k1) one clear (bothReply r) (bothReply t) (p .keeps) (q .keeps) in
+pub both-unique : (a b : Design) (w0 w1 : List ℕ) (n0 n1 : Lengths) (r q : TabulatedBoth) (t0 t1 u0 u1 : Table)
+    → TabulatesBoth a b w0 w1 n0 n1 r t0 t1 → TabulatesBoth a b w0 w1 n0 n1 q u0 u1 → (r ≡ q) × ((t0 ≡ u0) × (t1 ≡ u1))
+both-unique a b w0 w1 n0 n1 r q t0 t1 u0 u1 g h =
+    let both = keeps-unique (BothFault a b w0 w1 (shortestOf n0) (shortestOf n1)) (λ (x : Table × Table). AreTables a b w0 w1 (x .0) (x .1)) (λ (x : Table × Table). ZeroTable (x .0) × ZeroTable (x .1)) (t0, t1) (u0, u1) one clear (bothReply r) (bothReply q) (g .keeps) (h .keeps) in
     (injective bothReply tabulated-both both-back (both .0), (λ j. both .1 j .0, λ j. both .1 j .1))
   where
-    Answers : Slices × Slices → BothSizes → Type 0
-    Answers x = AreTables a b (x .0 .0) (x .0 .1) (x .1 .0) (x .1 .1)
+    one : (x y : BothSizes) → AreTables a b w0 w1 t0 t1 x → AreTables a b w0 w1 u0 u1 y → (x ≡ y) × (_≡_ {A = Table × Table} (t0, t1) (u0, u1))
+    one x y c d =
+        let s0 = c .old-states ∙ sym (d .old-states) in
+        let s1 = c .new-states ∙ sym (d .new-states) in
+        let v = c .vectors ∙ sym (d .vectors) in
+        (λ j. record { old = s0 j; new = s1 j; vectors = v j }, ap₂ (λ (x y : Table). (x, y)) (holds-unique n0 t0 u0 (g .old-room) (h .old-room) a w0 (c .old) (d .old)) (holds-unique n1 t1 u1 (g .new-room) (h .new-room) b w1 (c .new) (d .new)))
 
-    Clear : Slices × Slices → Type 0
-    Clear x = ZeroTables (x .0 .0) (x .0 .1) × ZeroTables (x .1 .0) (x .1 .1)
-
-    old : length (l0 .0) ≡ length (k0 .0)
-    old = p .size-next0 ∙ sym (q .size-next0)
-
-    old-out : length (l0 .1) ≡ length (k0 .1)
-    old-out = p .size-out0 ∙ sym (q .size-out0)
-
-    new : length (l1 .0) ≡ length (k1 .0)
-    new = p .size-next1 ∙ sym (q .size-next1)
-
-    new-out : length (l1 .1) ≡ length (k1 .1)
-    new-out = p .size-out1 ∙ sym (q .size-out1)
-
-    one : (x y : BothSizes) → Answers (l0, l1) x → Answers (k0, k1) y → (x ≡ y) × (_≡_ {A = Slices × Slices} (l0, l1) (k0, k1))
-    one x y u w =
-        let s0 = u .old-states ∙ sym (w .old-states) in
-        let s1 = u .new-states ∙ sym (w .new-states) in
-        let v = u .vectors ∙ sym (w .vectors) in
-        (λ j. record { old = s0 j; new = s1 j; vectors = v j }, ap₂ (λ (x y : Slices). (x, y)) (holds-unique l0 k0 old old-out a (u .old) (w .old)) (holds-unique l1 k1 new new-out b (u .new) (w .new)))
-
-    clear : Clear (l0, l1) → Clear (k0, k1) → _≡_ {A = Slices × Slices} (l0, l1) (k0, k1)
-    clear u w = ap₂ (λ (x y : Slices). (x, y)) (cleared-unique l0 k0 old old-out (u .0) (w .0)) (cleared-unique l1 k1 new new-out (u .1) (w .1))
+    clear : ZeroTable t0 × ZeroTable t1 → ZeroTable u0 × ZeroTable u1 → _≡_ {A = Table × Table} (t0, t1) (u0, u1)
+    clear c d = ap₂ (λ (x y : Table). (x, y)) (cleared-unique n0 t0 u0 (g .old-room) (h .old-room) (c .0) (d .0)) (cleared-unique n1 t1 u1 (g .new-room) (h .new-room) (c .1) (d .1))

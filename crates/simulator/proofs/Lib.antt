@@ -1,6 +1,6 @@
 pub mod Filling
 pub mod Faults
-pub mod Room
+pub mod Preparing
 pub mod NotZero
 pub mod Determined
 pub mod Same

@@ -1,10 +1,9 @@
 // One clock of a design, and the tables of all its clocks.
 mod tables;
 
-ghost use lib.ListN.{length};
+ghost use Rattle.memory.specs.Meaning.Tables.{tableOf, lengthsOf};
 ghost use Rattle.simulator.specs.Meaning.Clock.{Clocks};
 ghost use Rattle.simulator.specs.Meaning.Tables.{Tabulates, TabulatesBoth};
-use crate::tables::Room;
 use netlist::Design;
 
 pub enum Clocked {
@@ -38,22 +37,23 @@ pub enum Tabulated {
     Refused(u8),
 }
 
-// Writes the next state and the output of every clock of a design.
-pub fn tabulate(d: Design, next: &mut [u8], out: &mut [u8]) -> Tabulated
-    ensures { λ r. ⌜ Tabulates d (length (now (next .entry))) (length (now (out .entry))) r (now (next .exit)) (now (out .exit)) ⌝ }
+// Writes the next state, the output and the watched value of every clock of a design with watched nets beside it.
+pub fn tabulate(
+    d: Design,
+    watch: &[u16],
+    next: &mut [u8],
+    out: &mut [u8],
+    seen: &mut [u8],
+) -> Tabulated
+    ensures { λ r. ⌜ Tabulates d (now (watch .entry)) (lengthsOf (tableOf (now (next .entry)) (now (out .entry)) (now (seen .entry)))) r (tableOf (now (next .exit)) (now (out .exit)) (now (seen .exit))) ⌝ }
 {
-    let plan = order::levelize(d);
-    let room = Room {
-        next: next.len(),
-        out: out.len(),
-    };
-    let number = tables::table_number(d, plan.number, room);
-    memory::clear_bytes(next);
-    memory::clear_bytes(out);
+    let room = memory::shorter(next.len(), memory::shorter(out.len(), seen.len()));
+    let prepared = tables::prepare(d, watch, room);
+    let number = prepared.number;
+    tables::write(d, prepared, number, next, out, seen);
     if number != 0 {
         return Tabulated::Refused(number);
     }
-    tables::fill(d, plan, next, out);
     Tabulated::Table {
         states: evaluator::power(d.latches),
         vectors: evaluator::power(d.inputs),
@@ -69,44 +69,44 @@ pub enum TabulatedBoth {
     Refused(u8),
 }
 
-// The same for two designs that are to be compared.
+// The same for two designs that are to be compared; the watched nets of the one answer to those of the other.
 pub fn tabulate_both(
     old: Design,
     new: Design,
+    old_watch: &[u16],
+    new_watch: &[u16],
     old_next: &mut [u8],
     old_out: &mut [u8],
+    old_seen: &mut [u8],
     new_next: &mut [u8],
     new_out: &mut [u8],
+    new_seen: &mut [u8],
 ) -> TabulatedBoth
-    ensures { λ r. ⌜ TabulatesBoth old new (length (now («old_next» .entry))) (length (now («old_out» .entry))) (length (now («new_next» .entry))) (length (now («new_out» .entry))) r (now («old_next» .exit)) (now («old_out» .exit)) (now («new_next» .exit)) (now («new_out» .exit)) ⌝ }
+    ensures { λ r. ⌜ TabulatesBoth old new (now («old_watch» .entry)) (now («new_watch» .entry)) (lengthsOf (tableOf (now («old_next» .entry)) (now («old_out» .entry)) (now («old_seen» .entry)))) (lengthsOf (tableOf (now («new_next» .entry)) (now («new_out» .entry)) (now («new_seen» .entry)))) r (tableOf (now («old_next» .exit)) (now («old_out» .exit)) (now («old_seen» .exit))) (tableOf (now («new_next» .exit)) (now («new_out» .exit)) (now («new_seen» .exit))) ⌝ }
 {
-    let old_plan = order::levelize(old);
-    let new_plan = order::levelize(new);
-    let old_room = Room {
-        next: old_next.len(),
-        out: old_out.len(),
-    };
-    let new_room = Room {
-        next: new_next.len(),
-        out: new_out.len(),
-    };
+    let old_room = memory::shorter(
+        old_next.len(),
+        memory::shorter(old_out.len(), old_seen.len()),
+    );
+    let new_room = memory::shorter(
+        new_next.len(),
+        memory::shorter(new_out.len(), new_seen.len()),
+    );
+    let old_prepared = tables::prepare(old, old_watch, old_room);
+    let new_prepared = tables::prepare(new, new_watch, new_room);
     let number = tables::both_number(
         old,
         new,
-        old_plan.number,
-        new_plan.number,
-        old_room,
-        new_room,
+        old_watch.len(),
+        new_watch.len(),
+        old_prepared.number,
+        new_prepared.number,
     );
-    memory::clear_bytes(old_next);
-    memory::clear_bytes(old_out);
-    memory::clear_bytes(new_next);
-    memory::clear_bytes(new_out);
+    tables::write(old, old_prepared, number, old_next, old_out, old_seen);
+    tables::write(new, new_prepared, number, new_next, new_out, new_seen);
     if number != 0 {
         return TabulatedBoth::Refused(number);
     }
-    tables::fill(old, old_plan, old_next, old_out);
-    tables::fill(new, new_plan, new_next, new_out);
     TabulatedBoth::Both {
         old: evaluator::power(old.latches),
         new: evaluator::power(new.latches),

@@ -1,74 +1,101 @@
 // The tables of a design.
 ghost use mathlib.Core.Path.{_≡_};
-ghost use Prim.Native.Nat.{_≤_};
-ghost use lib.ListN.{length};
+ghost use mathlib.Core.List.{List};
+ghost use Prim.Native.Nat.{ℕ, _≤_};
 ghost use Rattle.memory.specs.Meaning.Refusals.{FirstOrNone};
-ghost use Rattle.netlist.specs.Meaning.Faults.{DesignFault};
+ghost use Rattle.memory.specs.Meaning.Tables.{tableOf, lengthsOf, shortestOf, ZeroTable};
 ghost use Rattle.netlist.specs.Working.Sound.{Sound};
-ghost use Rattle.simulator.specs.Meaning.Tables.{sizeOf, TableFault, InterfaceFault, BothFault};
-ghost use Rattle.simulator.specs.Working.Filling.{Fillable, FilledTables};
+ghost use Rattle.simulator.specs.Meaning.Tables.{sizeOf, TableFault};
+ghost use Rattle.simulator.specs.Working.Filling.{DrawnFault, PairNumber, Fillable, FilledTables, Prepares, Writes};
 use netlist::Design;
 use order::Plan;
+use watched::Watch;
 
-// How many bytes the table slices of a design have.
-pub struct Room {
-    pub next: usize,
-    pub out: usize,
+// What tabulating a design needs: the first number that applies, or 0; an order of its kept cells, and its watched nets.
+pub struct Prepared {
+    pub number: u8,
+    pub plan: Plan,
+    pub watch: Watch,
 }
 
-// The lowest number that applies to tabulating a design; `number` is the lowest that applies to the design itself.
-pub(crate) fn table_number(d: Design, number: u8, room: Room) -> u8
-    requires { ⌜ FirstOrNone (DesignFault d) number ⌝ }
-    ensures { λ r. ⌜ FirstOrNone (TableFault d (room .next) (room .out)) r ⌝ }
+// The first number that applies to tabulating a design into slices of which the shortest has some room, or what filling them needs.
+pub(crate) fn prepare(d: Design, watch: &[u16], room: usize) -> Prepared
+    ensures { λ r. ⌜ Prepares d (now (watch .entry)) room (r .number) (r .plan .kept) (r .plan .cells) (r .watch .count) (r .watch .nets) ⌝ }
 {
-    if number != 0 {
-        return number;
+    let plan = order::levelize(d);
+    let taken = watched::take(d, watch);
+    let drawn = memory::earlier_number(plan.number, taken.number);
+    let number = table_number(d, drawn, room);
+    Prepared {
+        number,
+        plan,
+        watch: taken,
     }
-    let size = size(d);
-    if room.next < size {
-        return 12;
+}
+
+// 12 where a slice is too short, behind the number that applies to a design and its watched nets.
+fn table_number(d: Design, drawn: u8, room: usize) -> u8
+    requires { ⌜ (drawn ≡ 0 → Sound d) ⌝ }
+    ensures { λ r. ⌜ ((w : List ℕ) → FirstOrNone (DrawnFault d w) drawn → FirstOrNone (TableFault d w room) r) ⌝ }
+{
+    if drawn != 0 {
+        return drawn;
     }
-    if room.out < size {
+    if room < size(d) {
         return 12;
     }
     0
 }
 
-// The lowest number that applies to tabulating two designs.
+// The first number that applies to tabulating two designs: those of either, and 10 and 21 of both together.
 pub(crate) fn both_number(
     old: Design,
     new: Design,
+    old_watched: usize,
+    new_watched: usize,
     old_number: u8,
     new_number: u8,
-    old_room: Room,
-    new_room: Room,
 ) -> u8
-    requires { ⌜ (FirstOrNone (DesignFault old) «old_number») × (FirstOrNone (DesignFault new) «new_number») ⌝ }
-    ensures { λ r. ⌜ FirstOrNone (BothFault old new («old_room» .next) («old_room» .out) («new_room» .next) («new_room» .out)) r ⌝ }
+    ensures { λ r. ⌜ PairNumber old new «old_watched» «new_watched» «old_number» «new_number» r ⌝ }
 {
-    let old_table = table_number(old, old_number, old_room);
-    let new_table = table_number(new, new_number, new_room);
-    let table = memory::earlier_number(old_table, new_table);
-    memory::earlier_number(table, interface_number(old, new))
-}
-
-// 10 where the designs cannot be compared, or 0.
-fn interface_number(old: Design, new: Design) -> u8
-    ensures { λ r. ⌜ FirstOrNone (InterfaceFault old new) r ⌝ }
-{
+    let either = memory::earlier_number(old_number, new_number);
     if old.inputs != new.inputs {
-        return 10;
+        return memory::earlier_number(either, 10);
     }
     if old.outputs != new.outputs {
-        return 10;
+        return memory::earlier_number(either, 10);
     }
-    0
+    if old_watched != new_watched {
+        return memory::earlier_number(either, 21);
+    }
+    either
+}
+
+// Clears the slices of a design, and fills them where no number applies.
+pub(crate) fn write(
+    d: Design,
+    prepared: Prepared,
+    number: u8,
+    next: &mut [u8],
+    out: &mut [u8],
+    seen: &mut [u8],
+)
+    requires { ⌜ (number ≡ 0 → Fillable d (prepared .plan .kept) (prepared .plan .cells) (prepared .watch .count) (prepared .watch .nets) (shortestOf (lengthsOf (tableOf (now next) (now out) (now seen))))) ⌝ }
+    ensures { λ _. ⌜ Writes d (prepared .watch .count) (prepared .watch .nets) number (lengthsOf (tableOf (now (next .entry)) (now (out .entry)) (now (seen .entry)))) (tableOf (now (next .exit)) (now (out .exit)) (now (seen .exit))) ⌝ }
+{
+    memory::clear_table(next, out, seen);
+    if number == 0 {
+        let plan = prepared.plan;
+        let watch = prepared.watch;
+        fill(d, plan, watch, next, out, seen);
+    }
 }
 
 // Every clock of a design, in cleared slices.
-pub(crate) fn fill(d: Design, plan: Plan, next: &mut [u8], out: &mut [u8])
-    requires { ⌜ Fillable d (plan .kept) (plan .cells) (now next) (now out) ⌝ }
-    ensures { λ _. ⌜ FilledTables d (length (now (next .entry))) (length (now (out .entry))) (sizeOf d) (now (next .exit)) (now (out .exit)) ⌝ }
+fn fill(d: Design, plan: Plan, watch: Watch, next: &mut [u8], out: &mut [u8], seen: &mut [u8])
+    requires { ⌜ Fillable d (plan .kept) (plan .cells) (watch .count) (watch .nets) (shortestOf (lengthsOf (tableOf (now next) (now out) (now seen)))) ⌝ }
+    requires { ⌜ ZeroTable (tableOf (now next) (now out) (now seen)) ⌝ }
+    ensures { λ _. ⌜ FilledTables d (watch .count) (watch .nets) (lengthsOf (tableOf (now (next .entry)) (now (out .entry)) (now (seen .entry)))) (sizeOf d) (tableOf (now (next .exit)) (now (out .exit)) (now (seen .exit))) ⌝ }
 {
     let vectors = evaluator::power(d.inputs);
     let end = size(d);
@@ -76,9 +103,10 @@ pub(crate) fn fill(d: Design, plan: Plan, next: &mut [u8], out: &mut [u8])
     while k < end {
         let s = k / vectors;
         let v = k % vectors;
-        let t = evaluator::step(d, plan, s, v);
+        let t = evaluator::observe(d, plan, watch, s, v);
         next[k] = t.next;
         out[k] = t.out;
+        seen[k] = t.seen;
         k += 1;
     }
 }

@@ -17,7 +17,7 @@ use Rattle.machine.specs.Meaning.Tables.{Tables}
 use Rattle.machine.specs.Meaning.Allowed.{everyVector, WrongAllowed}
 use Rattle.machine.specs.Meaning.Faults.{OutOfRange, TooShort, LeadsOut, leads, TablesFault, VectorsFault}
 use Rattle.machine.proofs.Allowed.{ones-right}
-use Rattle.table_faults.specs.Working.{InRange, LongEnough, Stays}
+use Rattle.table_faults.specs.Working.{Measured, InRange, LongEnough, Stays}
 
 range-no : {z : Sizes} → InRange z → OutOfRange z → ⊥
 range-no r (OutOfRange.old-none e) = omega (arith, r .some-old)
@@ -27,12 +27,17 @@ range-no r (OutOfRange.new-many h) = omega (arith, r .few-new)
 range-no r (OutOfRange.vectors-none e) = omega (arith, r .some-vectors)
 range-no r (OutOfRange.vectors-many h) = omega (arith, r .few-vectors)
 
-long-no : {t : Tables} {room : ℕ} → LongEnough t room → TooShort t room → ⊥
-long-no r (TooShort.old-next h) = not-lt (r .old-next) h
-long-no r (TooShort.old-out h) = not-lt (r .old-out) h
-long-no r (TooShort.new-next h) = not-lt (r .new-next) h
-long-no r (TooShort.new-out h) = not-lt (r .new-out) h
-long-no r (TooShort.lent h) = not-lt (r .lent) h
+-- no table is too short, and no slice of one entry a pair
+pub record Long (t : Tables) (room : ℕ) : Type 0 where
+  pub none : TooShort t room → ⊥
+
+pub long : {t : Tables} {k0 k1 room : ℕ} → LongEnough (t .sizes) (t .old .next) (t .new .next) k0 k1 room → Measured k0 k1 t → Long t room
+long {t} {k0} {k1} {room} r m = record { none = go }
+  where
+    go : TooShort t room → ⊥
+    go (TooShort.old h) = not-lt (r .old) (rw (m .old) at h)
+    go (TooShort.new h) = not-lt (r .new) (rw (m .new) at h)
+    go (TooShort.lent h) = not-lt (r .lent) h
 
 stays-no : {s v : ℕ} {n : List ℕ} → Stays s v n → LeadsOut s v n → ⊥
 stays-no r (leads i h l) = not-lt l (r .stays i h)
@@ -62,9 +67,9 @@ module _ {t : Tables} {room : ℕ} where
   past-11 r (TablesFault.old-leads o) = omega arith
   past-11 r (TablesFault.new-leads o) = omega arith
 
-  past-12 : InRange (t .sizes) → LongEnough t room → {m : ℕ} → TablesFault t room m → 13 ≤ m
+  past-12 : InRange (t .sizes) → Long t room → {m : ℕ} → TablesFault t room m → 13 ≤ m
   past-12 r l (TablesFault.range o) = absurd (range-no r o)
-  past-12 r l (TablesFault.short o) = absurd (long-no l o)
+  past-12 r l (TablesFault.short o) = absurd (l .none o)
   past-12 r l (TablesFault.old-leads o) = omega arith
   past-12 r l (TablesFault.new-leads o) = omega arith
 
@@ -78,23 +83,23 @@ module _ {t : Tables} {room : ℕ} where
   pub at-12 : InRange (t .sizes) → TooShort t room → FirstOrNone (TablesFault t room) 12
   at-12 r o = lowest (TablesFault.short o) (λ m f. past-11 r f)
 
-  pub at-13 : InRange (t .sizes) → LongEnough t room → TablesFault t room 13 → FirstOrNone (TablesFault t room) 13
+  pub at-13 : InRange (t .sizes) → Long t room → TablesFault t room 13 → FirstOrNone (TablesFault t room) 13
   at-13 r l o = lowest o (λ m f. past-12 r l f)
 
-  pub at-none : InRange (t .sizes) → LongEnough t room → Stays (t .sizes .old) (t .sizes .vectors) (t .old-next) → Stays (t .sizes .new) (t .sizes .vectors) (t .new-next) → FirstOrNone (TablesFault t room) 0
+  pub at-none : InRange (t .sizes) → Long t room → Stays (t .sizes .old) (t .sizes .vectors) (t .old .next) → Stays (t .sizes .new) (t .sizes .vectors) (t .new .next) → FirstOrNone (TablesFault t room) 0
   at-none r l a b = no-number (λ m f. go f)
     where
       go : {m : ℕ} → TablesFault t room m → ⊥
       go (TablesFault.range o) = range-no r o
-      go (TablesFault.short o) = long-no l o
+      go (TablesFault.short o) = l .none o
       go (TablesFault.old-leads o) = stays-no a o
       go (TablesFault.new-leads o) = stays-no b o
 
   -- where these stand in the order, and 20
-  pub tables-place : {m : ℕ} → TablesFault t room m → placeIn tableOrder m ≤ 13
+  pub tables-place : {m : ℕ} → TablesFault t room m → placeIn tableOrder m ≤ 14
   tables-place {m} f = omega (arith, fault-most f, place-high m (omega (arith, fault-some f)) (omega (arith, fault-most f)))
 
-  pub vectors-place : {m : ℕ} → VectorsFault t room m → placeIn tableOrder m ≤ 15
+  pub vectors-place : {m : ℕ} → VectorsFault t room m → placeIn tableOrder m ≤ 16
   vectors-place (VectorsFault.tables f) = omega (arith, tables-place f)
   vectors-place (VectorsFault.allowed w) = omega (arith, place-20 20 refl)
 

@@ -1,27 +1,27 @@
 // What turns a call away that takes the tables of two designs: sizes out of range, a slice too short, a next state that is no state, a
-// number that allows no vector or one that there is not.
+// number that allows no vector or one that there is not. No number looks into what a design shows, so of its outputs and watched values
+// only the length of the shorter table is taken (`old_shown`, `new_shown`).
 ghost use Prim.Native.Nat.{_*_, _≤_};
 ghost use lib.ListN.{length};
 ghost use Rattle.memory.specs.Meaning.Refusals.{FirstOrNone};
 ghost use Rattle.memory.specs.Working.Tests.{Splits, Tells};
-ghost use Rattle.machine.specs.Meaning.Tables.{bothTables};
 ghost use Rattle.machine.specs.Meaning.Allowed.{WrongAllowed};
 ghost use Rattle.machine.specs.Meaning.Faults.{OutOfRange, TooShort, LeadsOut, TablesFault, VectorsFault};
-ghost use Rattle.table_faults.specs.Working.{InRange, LongEnough, Stays};
+ghost use Rattle.table_faults.specs.Working.{ForTables, InRange, LongEnough, Stays};
 use machine::Sizes;
 
 // The first number that applies to the tables, the lent slices of one entry a pair and the allowed vectors, or 0.
 pub fn vectors_fault(
     old_next: &[u8],
-    old_out: &[u8],
     new_next: &[u8],
-    new_out: &[u8],
     sizes: Sizes,
+    old_shown: usize,
+    new_shown: usize,
     room: usize,
 ) -> u8
-    ensures { λ r. ⌜ FirstOrNone (VectorsFault (bothTables sizes (now («old_next» .entry)) (now («old_out» .entry)) (now («new_next» .entry)) (now («new_out» .entry))) room) r ⌝ }
+    ensures { λ r. ⌜ ForTables sizes (now («old_next» .entry)) (now («new_next» .entry)) «old_shown» «new_shown» (λ t. FirstOrNone (VectorsFault t room) r) ⌝ }
 {
-    let n = call_fault(old_next, old_out, new_next, new_out, sizes, room);
+    let n = call_fault(old_next, new_next, sizes, old_shown, new_shown, room);
     if n != 0 {
         return n;
     }
@@ -50,18 +50,18 @@ pub fn wrong_allowed(sizes: Sizes) -> bool
 // The lowest number that applies to the tables and the lent slices of one entry a pair, or 0.
 pub fn call_fault(
     old_next: &[u8],
-    old_out: &[u8],
     new_next: &[u8],
-    new_out: &[u8],
     sizes: Sizes,
+    old_shown: usize,
+    new_shown: usize,
     room: usize,
 ) -> u8
-    ensures { λ r. ⌜ FirstOrNone (TablesFault (bothTables sizes (now («old_next» .entry)) (now («old_out» .entry)) (now («new_next» .entry)) (now («new_out» .entry))) room) r ⌝ }
+    ensures { λ r. ⌜ ForTables sizes (now («old_next» .entry)) (now («new_next» .entry)) «old_shown» «new_shown» (λ t. FirstOrNone (TablesFault t room) r) ⌝ }
 {
     if out_of_range(sizes) {
         return 11;
     }
-    if too_short(old_next, old_out, new_next, new_out, sizes, room) {
+    if too_short(old_next, new_next, sizes, old_shown, new_shown, room) {
         return 12;
     }
     if leads_out(old_next, sizes.old, sizes.vectors) {
@@ -101,27 +101,19 @@ fn out_of_range(sizes: Sizes) -> bool
 // 12: a table, or the shortest of the slices of one entry a pair, is too short.
 fn too_short(
     old_next: &[u8],
-    old_out: &[u8],
     new_next: &[u8],
-    new_out: &[u8],
     sizes: Sizes,
+    old_shown: usize,
+    new_shown: usize,
     room: usize,
 ) -> bool
     requires { ⌜ InRange sizes ⌝ }
-    ensures { λ r. ⌜ Splits r (TooShort (bothTables sizes (now («old_next» .entry)) (now («old_out» .entry)) (now («new_next» .entry)) (now («new_out» .entry))) room) (LongEnough (bothTables sizes (now («old_next» .entry)) (now («old_out» .entry)) (now («new_next» .entry)) (now («new_out» .entry))) room) ⌝ }
+    ensures { λ r. ⌜ Splits r (ForTables sizes (now («old_next» .entry)) (now («new_next» .entry)) «old_shown» «new_shown» (λ t. TooShort t room)) (LongEnough sizes (now («old_next» .entry)) (now («new_next» .entry)) «old_shown» «new_shown» room) ⌝ }
 {
-    let old = sizes.old * sizes.vectors;
-    let new = sizes.new * sizes.vectors;
-    if old_next.len() < old {
+    if memory::shorter(old_next.len(), old_shown) < sizes.old * sizes.vectors {
         return true;
     }
-    if old_out.len() < old {
-        return true;
-    }
-    if new_next.len() < new {
-        return true;
-    }
-    if new_out.len() < new {
+    if memory::shorter(new_next.len(), new_shown) < sizes.new * sizes.vectors {
         return true;
     }
     if room < sizes.old * sizes.new {

@@ -16,18 +16,19 @@
 //   levelize x11110110100080C0004028        Q, which has cells
 //   clock x111100008060 0,1                 the state and the vector
 //   write x111100008060 7/6                 what the slices hold at entry, and the length of each, in the order of the call
-//   tabulate x111100008060 7/4,4
-//   tabulate_both x111100008060 x111100008040 7/4,4,4,4
-//   compare x111100008060 x111100008040 7/4,4,4,4/4,4,1/0,0,0,3
-//   map_alike 7/4,4,4,4/4,4,4/2,2,2 0,1,0,1/0,0,1,1/0,1,0,1/0,1,0,1
-//   trace_of 7/4,4,4,4/4,4,1/2,2,2/0,1/0,0,0,3 0,1,0,1/0,0,1,1/0,1,0,1/0,1,0,1
+//   tabulate x111100008060 7/4,4,4/3,2      behind the lengths the watched nets
+//   tabulate_both x111100008060 x111100008040 7/4*6/1,3,2
+//   compare x111100008060 x111100008040 7/4*6/4,4,1/0,0,0,3/1,3,2
+//   map_alike 7/4*6/4,4,4/2,2,2 0,1,0,1/0,0,1,1/0*4/0,1,0,1/0,1,0,1/0*4
+//   trace_of 7/4*6/4,4,1/2,2,2/0,1/0,0,0,3 0,1,0,1/0,0,1,1/0*4/0,1,0,1/0,1,0,1/0*4
 //   earlier_number 19,10                    two numbers of refusals
 //
+// Of two designs the watched nets stand last: how many of the old one are watched, these, and those of the new one; without them none is.
 // map_alignable and judge are asked as map_alike is, list_of as trace_of: behind the lengths stand S of the old design, S of the new, V,
-// and the pair; the bytes are the four tables. Last comes the number that names the allowed vectors, in four parts of 16 bits, the most
-// significant first; where they are left out, all V vectors are allowed. length_of and read take no list of numbers: their image stands
-// behind an x. An answer shows each written slice behind a bar, as a list, 00*0 for an empty one; of one with more than 64 runs of one
-// value the first 64 runs, and a sum in which an entry counts by where it stands.
+// and the pair; the bytes are the six tables, of next states, outputs and watched values. Last comes the number that names the allowed
+// vectors, in four parts of 16 bits, the most significant first; where they are left out, all V vectors are allowed. length_of and read
+// take no list of numbers: their image stands behind an x. An answer shows each written slice behind a bar, as a list, 00*0 for an empty
+// one; of one with more than 64 runs of one value the first 64 runs, and a sum in which an entry counts by where it stands.
 mod calls;
 mod designs;
 mod show;
@@ -46,9 +47,9 @@ const LINES: usize = 262144;
 
 const SLICE: usize = 65536;
 
-const BYTES: usize = 40000;
+const BYTES: usize = 50000;
 
-const NUMBERS: usize = 17;
+const NUMBERS: usize = 40;
 
 fn main() {
     let mut all = [0u8; LINES];
@@ -137,8 +138,8 @@ fn takes(call: usize, numbers: usize, bytes: usize) -> bool {
 fn answer(call: usize, old: Design, new: Design, n: [u16; NUMBERS], given: usize, bytes: &[u8]) {
     match call {
         calls::COMPARE => ask_compare(old, new, n, given),
-        calls::TABULATE_BOTH => ask_tabulate_both(old, new, n),
-        calls::TABULATE => ask_tabulate(old, n),
+        calls::TABULATE_BOTH => ask_tabulate_both(old, new, n, given),
+        calls::TABULATE => ask_tabulate(old, n, given),
         calls::WRITE => ask_write(old, n),
         calls::CLOCK => ask_clock(old, n),
         calls::FAULT_OF => show::item(b"fault ", order::fault_of(old) as usize),
@@ -160,6 +161,8 @@ struct Lengths {
     e: usize,
     f: usize,
     g: usize,
+    h: usize,
+    i: usize,
 }
 
 fn lengths_of(n: [u16; NUMBERS]) -> Lengths {
@@ -171,6 +174,8 @@ fn lengths_of(n: [u16; NUMBERS]) -> Lengths {
         e: wide(n[5]),
         f: wide(n[6]),
         g: wide(n[7]),
+        h: wide(n[8]),
+        i: wide(n[9]),
     }
 }
 
@@ -182,68 +187,128 @@ fn wide(n: u16) -> usize
 
 fn ask_compare(old: Design, new: Design, n: [u16; NUMBERS], given: usize) {
     let lengths = lengths_of(n);
-    let allowed = allowed_of(n, 8, given, vectors_of(old.inputs));
-    let held = designs::low(n[0]);
+    let allowed = allowed_of(n, 10, given, vectors_of(old.inputs));
+    let number = n[0];
+    let held = designs::low(number);
+    let end = 15 + wide(n[14]);
+    let watch0 = slices::nets(&n, 15, end);
+    let watch1 = slices::nets(&n, end, given);
     let mut next0 = [held; SLICE];
     let mut out0 = [held; SLICE];
+    let mut seen0 = [held; SLICE];
     let mut next1 = [held; SLICE];
     let mut out1 = [held; SLICE];
+    let mut seen1 = [held; SLICE];
+    compare_in(
+        old,
+        new,
+        watch0,
+        watch1,
+        allowed,
+        number,
+        lengths,
+        slices::bytes(&mut next0, lengths.a),
+        slices::bytes(&mut out0, lengths.b),
+        slices::bytes(&mut seen0, lengths.c),
+        slices::bytes(&mut next1, lengths.d),
+        slices::bytes(&mut out1, lengths.e),
+        slices::bytes(&mut seen1, lengths.f),
+    );
+}
+
+// Lends scratch and a list slice, which hold a number at entry, beside table slices.
+fn compare_in(
+    old: Design,
+    new: Design,
+    watch0: &[u16],
+    watch1: &[u16],
+    allowed: u64,
+    number: u16,
+    lengths: Lengths,
+    next0: &mut [u8],
+    out0: &mut [u8],
+    seen0: &mut [u8],
+    next1: &mut [u8],
+    out1: &mut [u8],
+    seen1: &mut [u8],
+) {
+    let held = designs::low(number);
     let mut depth = [held; SLICE];
-    let mut reach = [n[0]; SLICE];
+    let mut reach = [number; SLICE];
     let mut list = [held; SLICE];
-    let next0 = slices::bytes(&mut next0, lengths.a);
-    let out0 = slices::bytes(&mut out0, lengths.b);
-    let next1 = slices::bytes(&mut next1, lengths.c);
-    let out1 = slices::bytes(&mut out1, lengths.d);
-    let depth = slices::bytes(&mut depth, lengths.e);
-    let reach = slices::numbers(&mut reach, lengths.f);
-    let list = slices::bytes(&mut list, lengths.g);
+    let depth = slices::bytes(&mut depth, lengths.g);
+    let reach = slices::numbers(&mut reach, lengths.h);
+    let list = slices::bytes(&mut list, lengths.i);
     let judged = compare::compare(
         old,
         new,
+        watch0,
+        watch1,
         allowed,
         next0,
         out0,
+        seen0,
         next1,
         out1,
+        seen1,
         depth,
         reach,
         list,
     );
     show::judged(judged);
-    show::table(next0, out0);
-    show::table(next1, out1);
+    show::tables(next0, out0, seen0);
+    show::tables(next1, out1, seen1);
     show::scratch(depth, reach);
     show::bytes(list, false);
 }
 
-fn ask_tabulate_both(old: Design, new: Design, n: [u16; NUMBERS]) {
+fn ask_tabulate_both(old: Design, new: Design, n: [u16; NUMBERS], given: usize) {
     let lengths = lengths_of(n);
     let held = designs::low(n[0]);
+    let end = 8 + wide(n[7]);
+    let watch0 = slices::nets(&n, 8, end);
+    let watch1 = slices::nets(&n, end, given);
     let mut next0 = [held; SLICE];
     let mut out0 = [held; SLICE];
+    let mut seen0 = [held; SLICE];
     let mut next1 = [held; SLICE];
     let mut out1 = [held; SLICE];
+    let mut seen1 = [held; SLICE];
     let next0 = slices::bytes(&mut next0, lengths.a);
     let out0 = slices::bytes(&mut out0, lengths.b);
-    let next1 = slices::bytes(&mut next1, lengths.c);
-    let out1 = slices::bytes(&mut out1, lengths.d);
-    let tabulated = simulator::tabulate_both(old, new, next0, out0, next1, out1);
+    let seen0 = slices::bytes(&mut seen0, lengths.c);
+    let next1 = slices::bytes(&mut next1, lengths.d);
+    let out1 = slices::bytes(&mut out1, lengths.e);
+    let seen1 = slices::bytes(&mut seen1, lengths.f);
+    let tabulated = simulator::tabulate_both(
+        old,
+        new,
+        watch0,
+        watch1,
+        next0,
+        out0,
+        seen0,
+        next1,
+        out1,
+        seen1,
+    );
     show::tabulated_both(tabulated);
-    show::table(next0, out0);
-    show::table(next1, out1);
+    show::tables(next0, out0, seen0);
+    show::tables(next1, out1, seen1);
 }
 
-fn ask_tabulate(design: Design, n: [u16; NUMBERS]) {
+fn ask_tabulate(design: Design, n: [u16; NUMBERS], given: usize) {
     let lengths = lengths_of(n);
     let held = designs::low(n[0]);
     let mut next = [held; SLICE];
     let mut out = [held; SLICE];
+    let mut seen = [held; SLICE];
     let next = slices::bytes(&mut next, lengths.a);
     let out = slices::bytes(&mut out, lengths.b);
-    let tabulated = simulator::tabulate(design, next, out);
+    let seen = slices::bytes(&mut seen, lengths.c);
+    let tabulated = simulator::tabulate(design, slices::nets(&n, 4, given), next, out, seen);
     show::tabulated(tabulated);
-    show::table(next, out);
+    show::tables(next, out, seen);
 }
 
 fn ask_write(design: Design, n: [u16; NUMBERS]) {
@@ -273,13 +338,15 @@ fn ask_earlier_number(n: [u16; NUMBERS]) {
     show::item(b"number ", number as usize);
 }
 
-// Cuts the four tables out of a list, and takes the sizes and the pair.
+// Cuts the six tables out of a list, and takes the sizes and the pair.
 fn ask_tables(call: usize, n: [u16; NUMBERS], given: usize, bytes: &[u8]) {
     let a = wide(n[1]);
     let b = a + wide(n[2]);
     let c = b + wide(n[3]);
     let d = c + wide(n[4]);
-    if bytes.len() != d {
+    let e = d + wide(n[5]);
+    let f = e + wide(n[6]);
+    if bytes.len() != f {
         show::word(b"NO QUESTION: the tables have other lengths");
         return;
     }
@@ -291,6 +358,8 @@ fn ask_tables(call: usize, n: [u16; NUMBERS], given: usize, bytes: &[u8]) {
         slices::cut(bytes, a, b),
         slices::cut(bytes, b, c),
         slices::cut(bytes, c, d),
+        slices::cut(bytes, d, e),
+        slices::cut(bytes, e, f),
     );
 }
 
@@ -301,8 +370,10 @@ fn lend(
     sizes: Sizes,
     next0: &[u8],
     out0: &[u8],
+    seen0: &[u8],
     next1: &[u8],
     out1: &[u8],
+    seen1: &[u8],
 ) {
     let lengths = lengths_of(n);
     let pair = pair_of(n);
@@ -310,15 +381,17 @@ fn lend(
     let mut depth = [held; SLICE];
     let mut reach = [n[0]; SLICE];
     let mut list = [held; SLICE];
-    let depth = slices::bytes(&mut depth, lengths.e);
-    let reach = slices::numbers(&mut reach, lengths.f);
-    let list = slices::bytes(&mut list, lengths.g);
+    let depth = slices::bytes(&mut depth, lengths.g);
+    let reach = slices::numbers(&mut reach, lengths.h);
+    let list = slices::bytes(&mut list, lengths.i);
     answer_tables(
         call,
         next0,
         out0,
+        seen0,
         next1,
         out1,
+        seen1,
         sizes,
         pair,
         depth,
@@ -330,18 +403,18 @@ fn lend(
 }
 
 fn sizes_of(n: [u16; NUMBERS], given: usize) -> Sizes {
-    let vectors = wide(n[10]);
+    let vectors = wide(n[12]);
     Sizes {
-        old: wide(n[8]),
-        new: wide(n[9]),
+        old: wide(n[10]),
+        new: wide(n[11]),
         vectors,
-        allowed: allowed_of(n, 13, given, vectors),
+        allowed: allowed_of(n, 15, given, vectors),
     }
 }
 
 // The number that names the allowed vectors, whose four parts stand from a place on; where none is given, one that allows all.
 fn allowed_of(n: [u16; NUMBERS], at: usize, given: usize, vectors: usize) -> u64
-    requires { ⌜ at ≤ 13 ⌝ }
+    requires { ⌜ at ≤ 15 ⌝ }
 {
     if given <= at {
         return every(vectors);
@@ -367,18 +440,20 @@ fn every(vectors: usize) -> u64 {
 
 fn pair_of(n: [u16; NUMBERS]) -> Pair {
     Pair {
-        old: wide(n[11]),
-        new: wide(n[12]),
+        old: wide(n[13]),
+        new: wide(n[14]),
     }
 }
 
-// Puts a question on tables.
+// Puts a question on tables, those of next states (n), outputs (o) and watched values (w) of either design.
 fn answer_tables(
     call: usize,
-    next0: &[u8],
-    out0: &[u8],
-    next1: &[u8],
-    out1: &[u8],
+    n0: &[u8],
+    o0: &[u8],
+    w0: &[u8],
+    n1: &[u8],
+    o1: &[u8],
+    w1: &[u8],
     sizes: Sizes,
     pair: Pair,
     depth: &mut [u8],
@@ -387,23 +462,23 @@ fn answer_tables(
 ) {
     match call {
         calls::MAP_ALIKE => {
-            let r = engine::map_alike(next0, out0, next1, out1, sizes, depth, reach, list);
+            let r = engine::map_alike(n0, o0, w0, n1, o1, w1, sizes, depth, reach, list);
             show::alike(r);
         }
         calls::MAP_ALIGNABLE => {
-            let r = engine::map_alignable(next0, out0, next1, out1, sizes, depth, reach, list);
+            let r = engine::map_alignable(n0, o0, w0, n1, o1, w1, sizes, depth, reach, list);
             show::alignable(r);
         }
         calls::TRACE_OF => {
-            let r = engine::trace_of(next0, out0, next1, out1, sizes, pair, depth, reach, list);
+            let r = engine::trace_of(n0, o0, w0, n1, o1, w1, sizes, pair, depth, reach, list);
             show::found(r);
         }
         calls::LIST_OF => {
-            let r = engine::list_of(next0, out0, next1, out1, sizes, pair, depth, reach, list);
+            let r = engine::list_of(n0, o0, w0, n1, o1, w1, sizes, pair, depth, reach, list);
             show::found(r);
         }
         _ => {
-            let r = verdict::judge(next0, out0, next1, out1, sizes, depth, reach, list);
+            let r = verdict::judge(n0, o0, w0, n1, o1, w1, sizes, depth, reach, list);
             show::judged(r);
         }
     }

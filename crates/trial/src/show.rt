@@ -136,10 +136,11 @@ const START: u64 = 65537;
 // How many runs of a slice are shown.
 const MOST_RUNS: u64 = 64;
 
-// Shows the two slices of a table.
-pub(crate) fn table(next: &[u8], out: &[u8]) {
+// Shows the three table slices of a design.
+pub(crate) fn tables(next: &[u8], out: &[u8], seen: &[u8]) {
     bytes(next, false);
     bytes(out, false);
+    bytes(seen, false);
 }
 
 // Shows both scratch slices.

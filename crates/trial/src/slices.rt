@@ -10,6 +10,17 @@ pub(crate) fn cut(list: &[u8], from: usize, to: usize) -> &[u8] {
     list
 }
 
+// The nets from one place up to another, or none.
+pub(crate) fn nets(list: &[u16], from: usize, to: usize) -> &[u16] {
+    if from < to {
+        if to <= list.len() {
+            return &list[from..to];
+        }
+    }
+    let none = 0;
+    &list[..none]
+}
+
 // The first n entries, to be written.
 pub(crate) fn bytes(list: &mut [u8], n: usize) -> &mut [u8] {
     let from = 0;

@@ -35,11 +35,11 @@ use Rattle.marks.proofs.Moving.{After, after-none, after-more, run-under}
 use Rattle.verdict.specs.Working.Deciding.{SameIn, OpenAt, Reached, Follows, Added, Appended, added, full}
 use Rattle.verdict.proofs.Parts.{slice-at}
 
--- how many pairs of power-up states a list does not lead to a pair for which the map holds 1; outputs play no part in it
+-- how many pairs of power-up states a list does not lead to a pair for which the map holds 1; outputs and watched values play no part in it
 abbrev pub open-pairs : Sizes → List ℕ → List ℕ → List ℕ → List ℕ → ℕ
-open-pairs z next0 next1 reach l = unaligned (oldMachine (bothTables z next0 [] next1 [])) (newMachine (bothTables z next0 [] next1 [])) z (λ p. eqb (at z reach p) 1) l
+open-pairs z next0 next1 reach l = unaligned (oldMachine (bothTables z next0 [] [] next1 [] [])) (newMachine (bothTables z next0 [] [] next1 [] [])) z (λ p. eqb (at z reach p) 1) l
 
-same-open : (t : Tables) (reach l : List ℕ) → unaligned (oldMachine t) (newMachine t) (t .sizes) (λ p. eqb (at (t .sizes) reach p) 1) l ≡ open-pairs (t .sizes) (t .old-next) (t .new-next) reach l
+same-open : (t : Tables) (reach l : List ℕ) → unaligned (oldMachine t) (newMachine t) (t .sizes) (λ p. eqb (at (t .sizes) reach p) 1) l ≡ open-pairs (t .sizes) (t .old .next) (t .new .next) reach l
 unfolding unaligned
 same-open t reach l = refl
 
@@ -68,10 +68,10 @@ module _ (t : Tables) where
     pub rest : (i : ℕ) → len ≤ i → getD list i 0 ≡ getD list₀ i 0
 
   module _ {reach : List ℕ} (m : Reached t reach) where
-    pub leading-old : Leading (z .old) (z .vectors) (t .old-next)
+    pub leading-old : Leading (z .old) (z .vectors) (t .old .next)
     leading-old = let n = m .good .nexts in record { few = n .few .few-old; few-vectors = n .few .few-vectors; long = n .long-old; stays = n .next-old }
 
-    pub leading-new : Leading (z .new) (z .vectors) (t .new-next)
+    pub leading-new : Leading (z .new) (z .vectors) (t .new .next)
     leading-new = let n = m .good .nexts in record { few = n .few .few-new; few-vectors = n .few .few-vectors; long = n .long-new; stays = n .next-new }
 
     pub aligning-start : (list : List ℕ) → Aligning list list 0 (replicate 128 true) (replicate 128 true)
@@ -150,11 +150,11 @@ module _ (t : Tables) where
                 }
 
             -- what follows is the list of this pair
-            its-list : {l : List ℕ} → Follows z (t .old-next) (t .new-next) reach p list len l → ListAfterIn t (after Prior.Start (take len list)) p l
+            its-list : {l : List ℕ} → Follows z (t .old .next) (t .new .next) reach p list len l → ListAfterIn t (after Prior.Start (take len list)) p l
             its-list = listed t (m .good) (m .alike) p ins
 
             -- no room for it: the list of the rounds is no shorter than what is written and this
-            pub no-room : Zero list₀ → {on cleared : List ℕ} {k : ℕ} → Appended (Follows z (t .old-next) (t .new-next) reach p list len) len list on (Found.Refused k) → length on ≡ length list → Cleared (length on) cleared → Outcome ⊥ (SameIn t) list₀ cleared (Found.Refused 16)
+            pub no-room : Zero list₀ → {on cleared : List ℕ} {k : ℕ} → Appended (Follows z (t .old .next) (t .new .next) reach p list len) len list on (Found.Refused k) → length on ≡ length list → Cleared (length on) cleared → Outcome ⊥ (SameIn t) list₀ cleared (Found.Refused 16)
             no-room o (full part f l) k c =
                 let w′ = its-list f in
                 let r = rounds-exist m0 m1 z (inside t (m .good)) all (take len list ++ part) (each-append (Ok z) (take len list) part (w .ok) (w′ .shortest .has .allowed)) in
@@ -162,7 +162,7 @@ module _ (t : Tables) where
                 (omega (arith, rounds-extend m0 m1 (Ok z) z (r .0) (take len list ++ part) (r .1), length-append (take len list) part, length-take-le len list (w .under), w .long))
                 (zero-unique _ list₀ (c .size ∙ k ∙ w .long) (c .zero) o)
 
-            module _ {on : List ℕ} {k : ℕ} (a : Added (Follows z (t .old-next) (t .new-next) reach p list len) len list on k) where
+            module _ {on : List ℕ} {k : ℕ} (a : Added (Follows z (t .old .next) (t .new .next) reach p list len) len list on k) where
               pub added-fits : len + k ≤ length on
               added-fits = omega (arith, a .fits, a .long)
 
@@ -172,7 +172,7 @@ module _ (t : Tables) where
               pub part-below : (j : ℕ) → len ≤ j → j < len + k → getD on j 0 < z .vectors
               part-below = slice-at (λ v. v < z .vectors) on len (len + k) added-fits (rw (a .slices) (below-all (a .part) (listed-part .shortest .has .allowed)))
 
-              pub falls : open-pairs z (t .old-next) (t .new-next) reach (take (len + k) on) < open-pairs z (t .old-next) (t .new-next) reach (take len list)
+              pub falls : open-pairs z (t .old .next) (t .new .next) reach (take (len + k) on) < open-pairs z (t .old .next) (t .new .next) reach (take len list)
               falls = rw (← same-open t reach (take (len + k) on), ← same-open t reach (take len list), a .joins) (unaligned-falls m0 m1 z (inside t (m .good)) (λ p. eqb (at z reach p) 1) tells (take len list) (a .part) (w .ok) p (lowest .may) (lowest .open′) (listed-part .shortest .has))
 
               pub aligning-more : {next0 next1 : List Bool} → Successors (λ x. run (m0 .next) x (slice len (len + k) on)) (z .old) marks0 next0 → Successors (λ x. run (m1 .next) x (slice len (len + k) on)) (z .new) marks1 next1 → Aligning list₀ on (len + k) next0 next1

@@ -1,5 +1,5 @@
 -- What the program `align` prints of its input, and what is printed of two images under any panel: which text, and with which numbers.
--- The number `allowed` names the allowed vectors.
+-- The number `allowed` names the allowed vectors; "`align` and later programs watch nothing".
 --   oldBytes, newBytes b       the bytes of the old and of the new image in b
 --   oldDesign, newDesign b     the designs that they spell
 --   OldRefused b k             the old image is refused by number k
@@ -9,18 +9,20 @@
 --                              lengths s; list′ is what the list slice holds then
 --   Answers o b n s list′ t    the text t answers the images b under the panel o
 --   Reports o b n s list′ text′ r    the first r bytes of text′ are such a text
---   ownTables, ownSlices n     lengths of the tables and of scratch that the program holds, with a list slice of n bytes
+--   ownTable, ownTables, ownSlices n   lengths of the tables of a design, of both, and of scratch that the program holds, with a list slice of
+--                              n bytes
 --   Prints o b text′ r         the first r bytes of text′ are what is printed of the images b under the panel o
 --   Outputs b text′ k r        `align` prints them of the input b, to stream k
 --   mostRead                   how many bytes it reads: one more than two images have
 --   unreadMessage              what it says of input that cannot be read
 use Prim.Native.Nat.{ℕ, _+_, _*_}
 use mathlib.Core.Path.{_≡_}
-use mathlib.Core.List.{List}
+use mathlib.Core.List.{List, []}
 use lib.ListN.{length, take, drop}
 use Rattle.io.specs.Counts as io
 use Rattle.memory.specs.Meaning.Refusals.{Free, First}
 use Rattle.memory.specs.Meaning.Slices.{Zero}
+use Rattle.memory.specs.Meaning.Tables.{Lengths}
 use Rattle.netlist.specs.declared.Design.{Design}
 use Rattle.netlist.specs.Meaning.Nets.{vectorsOf}
 use Rattle.limits.specs.Meaning.Layout.{mostBytes}
@@ -70,16 +72,16 @@ pub record FactsOf (a b : Design) (allowed : ℕ) (f : Facts) : Type 0 where
   pub old-latches : f .«old_latches» ≡ a .latches
   pub new-latches : f .«new_latches» ≡ b .latches
   pub all : f .pairs ≡ pairs (sizesOf a b allowed)
-  pub alike : Counts (Alike (machineOf a) (machineOf b) (Ok (sizesOf a b allowed))) (sizesOf a b allowed) (f .alike)
-  pub alignable : Counts (Alignable (machineOf a) (machineOf b) (Ok (sizesOf a b allowed))) (sizesOf a b allowed) (f .alignable)
+  pub alike : Counts (Alike (machineOf a []) (machineOf b []) (Ok (sizesOf a b allowed))) (sizesOf a b allowed) (f .alike)
+  pub alignable : Counts (Alignable (machineOf a []) (machineOf b []) (Ok (sizesOf a b allowed))) (sizesOf a b allowed) (f .alignable)
 
 -- "`REFUSED BOTH n`"; else "the verdict with its list's length; then one vector a line", or Apart with its pair and trace
 pub data AnswersDesigns (a b : Design) (allowed : ℕ) (n : TablesLent) (s : Lent) (list′ t : List ℕ) : Type 0 where
-  refused : (k : ℕ) → First (CompareFault a b allowed n s) k → Zero list′ → t ≡ refusalText Both k → AnswersDesigns a b allowed n s list′ t
-  found-same : Free (CompareFault a b allowed n s) → (f : Facts) → FactsOf a b allowed f
-      → (m : ℕ) → Decided (machineOf a) (machineOf b) (Ok (sizesOf a b allowed)) (sizesOf a b allowed) list′ (same m) → t ≡ sameText f (take m list′) → AnswersDesigns a b allowed n s list′ t
-  found-apart : Free (CompareFault a b allowed n s) → (f : Facts) → FactsOf a b allowed f
-      → (p : Pair) (m : ℕ) → Decided (machineOf a) (machineOf b) (Ok (sizesOf a b allowed)) (sizesOf a b allowed) list′ (apart p m) → t ≡ apartText (machineOf a) (machineOf b) f p (take m list′) → AnswersDesigns a b allowed n s list′ t
+  refused : (k : ℕ) → First (CompareFault a b [] [] allowed n s) k → Zero list′ → t ≡ refusalText Both k → AnswersDesigns a b allowed n s list′ t
+  found-same : Free (CompareFault a b [] [] allowed n s) → (f : Facts) → FactsOf a b allowed f
+      → (m : ℕ) → Decided (machineOf a []) (machineOf b []) (Ok (sizesOf a b allowed)) (sizesOf a b allowed) list′ (same m) → t ≡ sameText f (take m list′) → AnswersDesigns a b allowed n s list′ t
+  found-apart : Free (CompareFault a b [] [] allowed n s) → (f : Facts) → FactsOf a b allowed f
+      → (p : Pair) (m : ℕ) → Decided (machineOf a []) (machineOf b []) (Ok (sizesOf a b allowed)) (sizesOf a b allowed) list′ (apart p m) → t ≡ apartText (machineOf a []) (machineOf b []) f p (take m list′) → AnswersDesigns a b allowed n s list′ t
 
 -- "A refusal prints only `REFUSED OLD n`, `REFUSED NEW n` or `REFUSED BOTH n` .., looked for in that order"
 pub data Answers (o : Panel) (b : List ℕ) (n : TablesLent) (s : Lent) (list′ t : List ℕ) : Type 0 where
@@ -93,9 +95,13 @@ pub record Reports (o : Panel) (b : List ℕ) (n : TablesLent) (s : Lent) (list�
   pub counts : io.Counts r text′
   pub kept : length list′ ≡ s .written
 
--- "two table slices a design, S × V bytes each"; §8: scratch of "one byte a pair" and of one 16-bit number a pair: for designs at every limit
+-- "two table slices a design, S × V bytes each", and by §9 a third; §8: scratch of "one byte a pair" and of one 16-bit number a pair: for
+-- designs at every limit
+abbrev pub ownTable : Lengths
+ownTable = record { next = 8192; out = 8192; seen = 8192 }
+
 abbrev pub ownTables : TablesLent
-ownTables = tablesLentOf 8192 8192 8192 8192
+ownTables = tablesLentOf ownTable ownTable
 
 abbrev pub ownSlices : ℕ → Lent
 ownSlices n = lentOf 16384 16384 n

@@ -1,40 +1,39 @@
--- `map_alike`: turned away with cleared slices, or the marks of the pairs for which the map to different outputs holds 0.
-use mathlib.Core.Path.{_∙_}
+-- `map_alike`: turned away with cleared slices, or the marks of alike pairs.
+use mathlib.Core.Path.{sym, _∙_}
 use native.Mathlib.Omega.{arith}
-use Rattle.memory.proofs.Filling.{written-end}
 use Rattle.opening.proofs.Clearing.{tidy-of}
 use Rattle.seek.proofs.Accepted.{good, room-enough}
-use Rattle.engine.proofs.Marks.{fits-each, marks-alike, alike-round}
+use Rattle.seek.proofs.Sets.{begun, with-begun}
+use Rattle.engine.proofs.Marks.{fits-each}
 use borrow.Author.Needs.{needs}
 use Rattle.engine.proofs.map_alike.Statement.{statement}
 use Rattle.engine.proofs.map_alike.Tie as tie
 
 returns : tie.Need-returns
 returns c = record {
-  keeps = (c .before .before .before .before .before .before .before .begin-map .ensures .0 .some (c .if1 .taken), c .before .before .before .before .before .before .before .begin-map .ensures .1 .written .zero);
+  keeps = (c .before .before .before .before .before .before .before .begin-map .ensures .0 .each (c .before .before .before .before .before .before .before .before .before .before .before .before .before .before .before .before .before .before .before .before .before .before .args .old-out .now) (c .before .before .before .before .before .before .before .before .before .before .before .before .before .before .before .before .before .before .before .before .before .before .args .old-seen .now) (c .before .before .before .before .before .before .before .before .before .before .before .before .before .before .before .before .before .before .before .before .before .before .args .new-out .now) (c .before .before .before .before .before .before .before .before .before .before .before .before .before .before .before .before .before .before .before .before .before .before .args .new-seen .now) (record { old = sym (c .before .before .before .before .before .before .before .before .before .before .before .before .shorter .ensures); new = sym (c .before .before .before .before .before .before .before .before .before .before .before .shorter2 .ensures) }) .some (c .if1 .taken), c .before .before .before .before .before .before .before .begin-map .ensures .1 .written .zero);
   tidy = tidy-of (c .before .before .before .before .before .before .before .begin-map .ensures .1);
 }
 
-map-traces-requires : tie.Need-map-traces-requires
-map-traces-requires c κs = let f = c .before .before .before .before .before .before .before .before .begin-map .ensures .0 .none (c .before .if1 .left) in (good f, omega (arith, fits-each (room-enough f) .2, c .before .before .before .before .before .before .before .before .begin-map .ensures .1 .reach .size))
+differ-requires : tie.Need-differ-requires
+differ-requires c κs =
+    let f = c .before .before .before .before .before .before .before .before .begin-map .ensures .0 .each (c .before .before .before .before .before .before .before .before .before .before .before .before .before .before .before .before .before .before .before .before .before .before .before .args .old-out .now) (c .before .before .before .before .before .before .before .before .before .before .before .before .before .before .before .before .before .before .before .before .before .before .before .args .old-seen .now) (c .before .before .before .before .before .before .before .before .before .before .before .before .before .before .before .before .before .before .before .before .before .before .before .args .new-out .now) (c .before .before .before .before .before .before .before .before .before .before .before .before .before .before .before .before .before .before .before .before .before .before .before .args .new-seen .now) (record { old = sym (c .before .before .before .before .before .before .before .before .before .before .before .before .before .shorter .ensures); new = sym (c .before .before .before .before .before .before .before .before .before .before .before .before .shorter2 .ensures) }) .none (c .before .if1 .left) in
+    (good f .outs, (good f .seens, omega (arith, fits-each (room-enough f) .2, c .before .before .before .before .before .before .before .before .begin-map .ensures .1 .reach .size)))
 
-total-requires : tie.Need-total-requires
-total-requires c κs = good (c .before .before .before .before .before .before .before .before .before .before .before .begin-map .ensures .0 .none (c .before .before .before .before .if1 .left)) .nexts .few
-
-flag-zeros-requires : tie.Need-flag-zeros-requires
-flag-zeros-requires c κs = let h = fits-each (room-enough (c .before .before .before .before .before .before .before .before .before .before .before .before .before .begin-map .ensures .0 .none (c .before .before .before .before .before .before .if1 .left))) in omega (arith, h .2, c .before .total .ensures .0, c .before .before .before .before .before .before .before .before .before .before .before .before .before .begin-map .ensures .1 .reach .size, c .before .before .before .before .map-traces .kept .1 .1 .1 .1 .1 .0)
-
-mark-map-requires : tie.Need-mark-map-requires
-mark-map-requires c κs = let h = fits-each (room-enough (c .before .before .before .before .before .before .before .before .before .before .before .before .before .before .before .before .before .before .begin-map .ensures .0 .none (c .before .before .before .before .before .before .before .before .before .before .before .if1 .left))) in let e = c .before .before .before .before .before .before .before .before .before .before .before .before .before .before .before .before .before .before .begin-map .ensures .1 in (omega (arith, h .2, c .before .before .before .before .before .before .total .ensures .0, e .reach .size, c .before .before .before .before .before .before .before .before .before .map-traces .kept .1 .1 .1 .1 .1 .0, c .before .before .before .before .flag-zeros .ensures .long), (omega (arith, h .0, c .before .before .before .before .before .before .total .ensures .0, e .written .size), c .before .before .before .before .before .before .total .ensures .1))
+mark-alike-requires : tie.Need-mark-alike-requires
+mark-alike-requires c κs =
+    let f = c .before .before .before .before .before .before .before .before .before .before .before .before .before .begin-map .ensures .0 .each (c .before .before .before .before .before .before .before .before .before .before .before .before .before .before .before .before .before .before .before .before .before .before .before .before .before .before .before .before .args .old-out .now) (c .before .before .before .before .before .before .before .before .before .before .before .before .before .before .before .before .before .before .before .before .before .before .before .before .before .before .before .before .args .old-seen .now) (c .before .before .before .before .before .before .before .before .before .before .before .before .before .before .before .before .before .before .before .before .before .before .before .before .before .before .before .before .args .new-out .now) (c .before .before .before .before .before .before .before .before .before .before .before .before .before .before .before .before .before .before .before .before .before .before .before .before .before .before .before .before .args .new-seen .now) (record { old = sym (c .before .before .before .before .before .before .before .before .before .before .before .before .before .before .before .before .before .before .shorter .ensures); new = sym (c .before .before .before .before .before .before .before .before .before .before .before .before .before .before .before .before .before .shorter2 .ensures) }) .none (c .before .before .before .before .before .before .if1 .left) in
+    let h = fits-each (room-enough f) in
+    let e = c .before .before .before .before .before .before .before .before .before .before .before .before .before .begin-map .ensures .1 in
+    (with-begun _ (begun _ (good f) (c .before .before .before .before .differ .ensures)), (omega (arith, h .2, e .reach .size, c .before .before .before .before .differ .ensures .long), (omega (arith, h .0, e .written .size), e .written .zero)))
 
 returns-2 : tie.Need-returns-2
 returns-2 c =
-    let f = c .before .before .before .before .before .before .before .before .before .before .before .before .before .before .before .before .before .before .before .before .before .before .before .begin-map .ensures .0 .none (c .before .before .before .before .before .before .before .before .before .before .before .before .before .before .before .before .if1 .left) in
-    let e = c .before .before .before .before .before .before .before .before .before .before .before .before .before .before .before .before .before .before .before .before .before .before .before .begin-map .ensures .1 in
-    let n = c .before .before .before .before .before .before .before .before .before .before .before .total .ensures .0 in
+    let f = c .before .before .before .before .before .before .before .before .before .before .before .before .before .before .before .before .before .before .begin-map .ensures .0 .each (c .before .before .before .before .before .before .before .before .before .before .before .before .before .before .before .before .before .before .before .before .before .before .before .before .before .before .before .before .before .before .before .before .before .args .old-out .now) (c .before .before .before .before .before .before .before .before .before .before .before .before .before .before .before .before .before .before .before .before .before .before .before .before .before .before .before .before .before .before .before .before .before .args .old-seen .now) (c .before .before .before .before .before .before .before .before .before .before .before .before .before .before .before .before .before .before .before .before .before .before .before .before .before .before .before .before .before .before .before .before .before .args .new-out .now) (c .before .before .before .before .before .before .before .before .before .before .before .before .before .before .before .before .before .before .before .before .before .before .before .before .before .before .before .before .before .before .before .before .before .args .new-seen .now) (record { old = sym (c .before .before .before .before .before .before .before .before .before .before .before .before .before .before .before .before .before .before .before .before .before .before .before .shorter .ensures); new = sym (c .before .before .before .before .before .before .before .before .before .before .before .before .before .before .before .before .before .before .before .before .before .before .shorter2 .ensures) }) .none (c .before .before .before .before .before .before .before .before .before .before .before .if1 .left) in
+    let e = c .before .before .before .before .before .before .before .before .before .before .before .before .before .before .before .before .before .before .begin-map .ensures .1 in
     record {
-      keeps = (f, record { marks = marks-alike _ (good f) (c .before .before .before .before .before .before .before .before .before .before .before .before .before .before .map-traces .ensures .complete) (written-end n (c .before .before .before .before .before .before .before .before .before .flag-zeros .ensures)) (written-end n (c .before .before .before .before .mark-map .ensures .0)) (e .written .zero) (rw n at (c .before .before .before .before .mark-map .ensures .1 .0)); round = alike-round (c .before .before .before .before .before .before .before .before .before .before .before .before .before .before .map-traces .ensures) });
-      tidy = record { depth = e .depth; reach = record { size = c .before .before .before .before .mark-map .ensures .1 .1 .size ∙ c .before .before .before .before .before .before .before .before .before .flag-zeros .ensures .long ∙ c .before .before .before .before .before .before .before .before .before .before .before .before .before .before .map-traces .kept .1 .1 .1 .1 .1 .0 ∙ e .reach .size; zero = c .before .before .before .before .mark-map .ensures .1 .1 .zero }; written = search needs };
+      keeps = (f, c .before .before .before .before .mark-alike .ensures .0 .each _ _ _ _ (begun _ (good f) (c .before .before .before .before .before .before .before .before .before .differ .ensures)));
+      tidy = record { depth = e .depth; reach = rw (c .before .before .before .before .before .before .before .before .before .differ .ensures .long ∙ e .reach .size) at (c .before .before .before .before .mark-alike .ensures .1); written = search needs };
     }
 
 pub map-alike-spec : {M : Type 1} → statement M
@@ -42,14 +41,14 @@ map-alike-spec =
     tie.close
     (tie.spec
     (λ c κs. search needs)
+    (λ c κs. search needs)
+    (λ c κs. search needs)
     (λ c. search needs)
     (λ c. search needs)
     (λ c. search needs)
     returns
-    map-traces-requires
-    total-requires
-    flag-zeros-requires
-    mark-map-requires
+    differ-requires
+    mark-alike-requires
     (λ c. search needs)
     (λ c. search needs)
     (λ c. search needs)

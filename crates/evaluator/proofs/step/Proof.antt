@@ -1,42 +1,13 @@
--- `step`: the values, what the flip-flops take, and what the outputs show.
-use mathlib.Core.Path.{_∙_}
+-- `step`: a clock in which no net is watched.
 use native.Mathlib.Omega.{arith}
-use Rattle.numbers.proofs.Digits.{horner-cong}
-use Rattle.evaluator.proofs.Sweep.{readable}
-use Rattle.evaluator.proofs.Latches.{latchable, next-state-of}
-use borrow.Author.Needs.{needs}
 use Rattle.evaluator.proofs.step.Statement.{statement}
 use Rattle.evaluator.proofs.step.Tie as tie
 
-next-word-requires : tie.Need-next-word-requires
-next-word-requires c κs = latchable _ _ _ _ (c .before .before .before .before .before .before .before .before .before .values .ensures) (c .before .before .before .before .before .before .before .before .before .before .pre .sound)
-
-slice-aggregate-word : tie.Need-slice-aggregate-word
-slice-aggregate-word c = let g = c .before .before .before .before .before .before .before .before .before .before .before .before .before .good in search needs
-
-word-requires : tie.Need-word-requires
-word-requires c κs =
-    let p = c .before .before .before .before .before .before .before .before .before .before .before .before .before .before .before .pre .sound in
-    readable _ _ _ _ _ _ p (omega (arith, p .few-outputs)) (p .shows) (c .before .before .before .before .before .before .before .before .before .before .before .before .before .before .values .ensures)
+observe-requires : tie.Need-observe-requires
+observe-requires c κs = (c .pre, record { few = omega arith; below = λ k h. absurd (omega arith) })
 
 returns : tie.Need-returns
-returns c =
-    let w = c .before .before .before .before .before .before .before .before .before .before .before .before .before .before .before .values .ensures in
-    (next-state-of _ _ _ _ w _ (c .before .before .before .before .before .next-word .ensures), c .word .ensures ∙ horner-cong _ _ _ (λ j h. w .at _))
+returns c = (c .observe .ensures .0, c .observe .ensures .1)
 
 pub step-spec : {M : Type 1} → statement M
-step-spec =
-    tie.close
-    (tie.spec
-    (λ c κs. search needs)
-    (λ c. search needs)
-    (λ c. search needs)
-    (λ c. search needs)
-    (λ c. search needs)
-    (λ c. search needs)
-    (λ c. search needs)
-    next-word-requires
-    slice-aggregate-word
-    (λ c. search needs)
-    word-requires
-    returns)
+step-spec = tie.close (tie.spec observe-requires returns)

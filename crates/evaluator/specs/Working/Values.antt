@@ -1,6 +1,8 @@
 -- The values of the nets in one clock.
 --   mostNets         nets of the largest design
 --   Evaluable d n l  what a clock needs: sizes and nets in range, and an order l of the n kept cells
+--   WatchedNets d n l  there are at most eight watched nets, and the n of the list l are nets of d
+--   watchedIn d n l s v   what they show
 --   Holds f l        the list l holds f n for every net n
 --   Readable l n w   the first n nets of the list l are places of w, and w holds bits
 --   latchedIn x e c own w k   what flip-flop k takes by the data, enable and clear nets of the lists x, e and c, with the values w
@@ -10,11 +12,12 @@ use Prim.Native.Nat.{ℕ, _+_, _<_, _≤_}
 use mathlib.Core.Path.{_≡_}
 use mathlib.Core.List.{List}
 use lib.ListN.{length, getD}
-use Rattle.numbers.specs.Meaning.Bits.{bitOf}
+use Rattle.numbers.specs.Meaning.Bits.{bitOf, horner}
 use Rattle.memory.specs.Working.Filling.{Filled}
 use Rattle.netlist.specs.declared.Design.{Design}
 use Rattle.limits.specs.Meaning.Limits.{mostInputs, mostLatches, mostCells}
-use Rattle.netlist.specs.Meaning.Nets.{latched}
+use Rattle.netlist.specs.Meaning.Nets.{netsOf, latched}
+use Rattle.netlist.specs.Meaning.Watched.{mostWatched, watchedBit}
 use Rattle.order.specs.Meaning.Order.{Ordered}
 use Rattle.netlist.specs.Working.Sound.{Sound}
 
@@ -24,6 +27,13 @@ mostNets = 2 + mostInputs + mostLatches + mostCells
 pub record Evaluable (d : Design) (n : ℕ) (l : List ℕ) : Type 0 where
   pub sound : Sound d
   pub ordered : Ordered d l n
+
+pub record WatchedNets (d : Design) (n : ℕ) (l : List ℕ) : Type 0 where
+  pub few : n ≤ mostWatched
+  pub below : (k : ℕ) → k < n → getD l k 0 < netsOf d
+
+abbrev pub watchedIn : Design → ℕ → List ℕ → ℕ → ℕ → ℕ
+watchedIn d n l s v = horner (watchedBit d l s v) n
 
 pub record Holds (f : ℕ → ℕ) (l : List ℕ) : Type 0 where
   pub size : length l ≡ mostNets

@@ -1,4 +1,4 @@
--- `differ`: the entries passed say where some vector shows different outputs.
+-- `differ`: the entries passed say where some vector shows a difference.
 use Prim.Native.Nat.{_≤_, _-_}
 use mathlib.Core.Path.{refl}
 use mathlib.Core.Logic.{⊎-elim}
@@ -11,13 +11,13 @@ use Rattle.flags.proofs.differ.Statement.{statement}
 use Rattle.flags.proofs.differ.Tie as tie
 
 abbrev Inv-loop : tie.InvT-loop
-Inv-loop old-out new-out sizes map₀ end i₀ map i = (i ≤ pairs sizes) × Flagged (DiffersAt sizes old-out new-out) i map₀ map
+Inv-loop old-out old-seen new-out new-seen sizes map₀ end i₀ map i = (i ≤ pairs sizes) × Flagged (DiffersAt sizes old-out old-seen new-out new-seen) i map₀ map
 
 abbrev μ-loop : tie.MeasureT-loop
-μ-loop old-out new-out sizes map₀ end i₀ map i = pairs sizes - i
+μ-loop old-out old-seen new-out new-seen sizes map₀ end i₀ map i = pairs sizes - i
 
 total-requires : tie.Need-total-requires Inv-loop μ-loop
-total-requires c κs = c .before .before .before .pre .0 .few
+total-requires c κs = c .before .before .before .before .before .pre .0 .few
 
 loop-holds : tie.Need-loop-holds Inv-loop μ-loop
 loop-holds c = (omega arith, written-start _)
@@ -27,7 +27,7 @@ pair-at-requires c κs = omega (arith, c .before .before .total .ensures .0, c .
 
 different-vector-requires : tie.Need-different-vector-requires Inv-loop μ-loop
 different-vector-requires c κs =
-    (c .before .before .before .before .before .before .before .pre .0, c .pair-at .ensures .1)
+    (c .before .before .before .before .before .before .before .before .before .pre .0, (c .before .before .before .before .before .before .before .before .before .pre .1 .0, c .pair-at .ensures .1))
 
 mul-map : tie.Need-mul-map Inv-loop μ-loop
 mul-map c =
@@ -35,7 +35,7 @@ mul-map c =
 
 slice-write-map : tie.Need-slice-write-map Inv-loop μ-loop
 slice-write-map c =
-    omega (arith, c .before .before .before .before .before .loop .inv .1 .long, c .before .before .before .before .before .before .before .before .before .before .pre .1, c .before .before .before .before .before .before .total .ensures .0, c .before .before .before .before .loop-test .taken)
+    omega (arith, c .before .before .before .before .before .loop .inv .1 .long, c .before .before .before .before .before .before .before .before .before .before .before .before .pre .1 .1, c .before .before .before .before .before .before .total .ensures .0, c .before .before .before .before .loop-test .taken)
 
 mul-map-2 : tie.Need-mul-map-2 Inv-loop μ-loop
 mul-map-2 c =
@@ -43,7 +43,7 @@ mul-map-2 c =
 
 slice-write-map-2 : tie.Need-slice-write-map-2 Inv-loop μ-loop
 slice-write-map-2 c =
-    omega (arith, c .before .before .before .before .before .loop .inv .1 .long, c .before .before .before .before .before .before .before .before .before .before .pre .1, c .before .before .before .before .before .before .total .ensures .0, c .before .before .before .before .loop-test .taken)
+    omega (arith, c .before .before .before .before .before .loop .inv .1 .long, c .before .before .before .before .before .before .before .before .before .before .before .before .pre .1 .1, c .before .before .before .before .before .before .total .ensures .0, c .before .before .before .before .loop-test .taken)
 
 add-i : tie.Need-add-i Inv-loop μ-loop
 add-i c =
@@ -56,8 +56,8 @@ loop-less c =
 loop-again : tie.Need-loop-again Inv-loop μ-loop
 loop-again c = (
   omega (arith, c .before .before .before .before .before .before .total .ensures .0, c .before .before .before .before .loop-test .taken),
-  ⊎-elim (λ w. rw (w .1) (written-more 1 (c .before .before .before .before .before .loop .inv .1) (omega (arith, c .before .before .before .before .before .before .before .before .before .before .pre .1, c .before .before .before .before .before .before .total .ensures .0, c .before .before .before .before .loop-test .taken)) (holds refl (rw (c .before .before .before .pair-at .ensures .0) at (differs-some (c .before .before .different-vector .ensures) (w .0 .taken))))))
-      (λ w. rw (w .1) (written-more 0 (c .before .before .before .before .before .loop .inv .1) (omega (arith, c .before .before .before .before .before .before .before .before .before .before .pre .1, c .before .before .before .before .before .before .total .ensures .0, c .before .before .before .before .loop-test .taken)) (fails refl (rw (c .before .before .before .pair-at .ensures .0) at (differs-none (c .before .before .different-vector .ensures) (w .0 .left))))))
+  ⊎-elim (λ w. rw (w .1) (written-more 1 (c .before .before .before .before .before .loop .inv .1) (omega (arith, c .before .before .before .before .before .before .before .before .before .before .before .before .pre .1 .1, c .before .before .before .before .before .before .total .ensures .0, c .before .before .before .before .loop-test .taken)) (holds refl (differs-some (c .before .before .before .pair-at .ensures .0) (c .before .before .different-vector .ensures) (w .0 .taken)))))
+      (λ w. rw (w .1) (written-more 0 (c .before .before .before .before .before .loop .inv .1) (omega (arith, c .before .before .before .before .before .before .before .before .before .before .before .before .pre .1 .1, c .before .before .before .before .before .before .total .ensures .0, c .before .before .before .before .loop-test .taken)) (fails refl (differs-none (c .before .before .before .pair-at .ensures .0) (c .before .before .different-vector .ensures) (w .0 .left)))))
       (c .if1 .came),
 )
 

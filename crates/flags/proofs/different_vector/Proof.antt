@@ -9,29 +9,25 @@ use Rattle.flags.proofs.different_vector.Statement.{statement}
 use Rattle.flags.proofs.different_vector.Tie as tie
 
 abbrev Inv-loop : tie.InvT-loop
-Inv-loop old-out new-out sizes p vector₀ vector = NoneBelow (Different sizes old-out new-out p) (sizes .vectors) vector
+Inv-loop old-out old-seen new-out new-seen sizes p vector₀ vector = NoneBelow (Different sizes old-out old-seen new-out new-seen p) (sizes .vectors) vector
 
 abbrev μ-loop : tie.MeasureT-loop
-μ-loop old-out new-out sizes p vector₀ vector = sizes .vectors - vector
+μ-loop old-out old-seen new-out new-seen sizes p vector₀ vector = sizes .vectors - vector
 
 loop-holds : tie.Need-loop-holds Inv-loop μ-loop
 loop-holds c = scan-start
 
 shows-requires : tie.Need-shows-requires Inv-loop μ-loop
-shows-requires c κs =
-    (c .before .before .before .before .before .pre .0, (c .before .before .before .before .before .pre .1, omega (arith, c .if1 .taken)))
+shows-requires c κs = (c .before .before .before .before .before .before .before .pre .0, (c .before .before .before .before .before .before .before .pre .1 .0, (c .before .before .before .before .before .before .before .pre .1 .1, omega (arith, c .if1 .taken))))
 
 returns : tie.Need-returns Inv-loop μ-loop
-returns c =
-    scan-found (c .before .before .before .before .loop .inv) (c .before .before .if1 .taken) (rw (c .if2 .taken) at (c .before .shows .ensures))
+returns c = scan-found (c .before .before .before .before .loop .inv) (c .before .before .if1 .taken) (rw (c .if2 .taken) at (c .before .shows .ensures))
 
 loop-again : tie.Need-loop-again Inv-loop μ-loop
-loop-again c =
-    scan-more (c .before .before .before .before .loop .inv) (c .before .before .if1 .taken) (rw (c .if2 .left) at (c .before .shows .ensures))
+loop-again c = scan-more (c .before .before .before .before .loop .inv) (c .before .before .if1 .taken) (rw (c .if2 .left) at (c .before .shows .ensures))
 
 returns-2 : tie.Need-returns-2 Inv-loop μ-loop
-returns-2 c =
-    scan-none (c .before .before .loop .inv) (c .if1 .left)
+returns-2 c = scan-none (c .before .before .loop .inv) (c .if1 .left)
 
 pub different-vector-spec : {M : Type 1} → statement M
 different-vector-spec =

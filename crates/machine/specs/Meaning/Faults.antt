@@ -10,7 +10,8 @@
 use mathlib.Core.Path.{_≡_}
 use mathlib.Core.List.{List}
 use Prim.Native.Nat.{ℕ, _<_, _≤_, _*_}
-use lib.ListN.{length, getD}
+use lib.ListN.{getD}
+use Rattle.memory.specs.Meaning.Tables.{lengthsOf, shortestOf}
 use Rattle.machine.specs.declared.Pair.{Pair}
 use Rattle.machine.specs.declared.Sizes.{Sizes}
 use Rattle.machine.specs.Meaning.Allowed.{WrongAllowed}
@@ -25,25 +26,24 @@ pub data OutOfRange (z : Sizes) : Type 0 where
   vectors-none : z .vectors ≡ 0 → OutOfRange z
   vectors-many : 64 < z .vectors → OutOfRange z
 
--- "two table slices a design, S × V bytes each; a mark slice of one byte a pair"; of scratch §8 says "one byte a pair; the other keeps its
--- 16-bit numbers", and "12 and demand 3 are measured on the new lengths": room is the entries, one a pair, of the shortest of these slices
+-- "two table slices a design, S × V bytes each", and by §9 a third; "a mark slice of one byte a pair"; of scratch §8 says "one byte a pair;
+-- the other keeps its 16-bit numbers", and "12 and demand 3 are measured on the new lengths": room is the entries, one a pair, of the
+-- shortest of these slices
 pub data TooShort (t : Tables) (room : ℕ) : Type 0 where
-  old-next : length (t .old-next) < t .sizes .old * t .sizes .vectors → TooShort t room
-  old-out : length (t .old-out) < t .sizes .old * t .sizes .vectors → TooShort t room
-  new-next : length (t .new-next) < t .sizes .new * t .sizes .vectors → TooShort t room
-  new-out : length (t .new-out) < t .sizes .new * t .sizes .vectors → TooShort t room
+  old : shortestOf (lengthsOf (t .old)) < t .sizes .old * t .sizes .vectors → TooShort t room
+  new : shortestOf (lengthsOf (t .new)) < t .sizes .new * t .sizes .vectors → TooShort t room
   lent : room < pairs (t .sizes) → TooShort t room
 
 -- "a table's next state not below S"
 pub data LeadsOut (states vectors : ℕ) (next : List ℕ) : Type 0 where
   leads : (i : ℕ) → i < states * vectors → states ≤ getD next i 0 → LeadsOut states vectors next
 
--- "11 S or V out of range; 12 a table, mark, scratch .. slice too short; 13 a table's next state not below S"
+-- "11 S or V out of range", "12 a table, mark, scratch .. slice too short", "13 a table's next state not below S"
 pub data TablesFault (t : Tables) (room : ℕ) : ℕ → Type 0 where
   range : OutOfRange (t .sizes) → TablesFault t room 11
   short : TooShort t room → TablesFault t room 12
-  old-leads : LeadsOut (t .sizes .old) (t .sizes .vectors) (t .old-next) → TablesFault t room 13
-  new-leads : LeadsOut (t .sizes .new) (t .sizes .vectors) (t .new-next) → TablesFault t room 13
+  old-leads : LeadsOut (t .sizes .old) (t .sizes .vectors) (t .old .next) → TablesFault t room 13
+  new-leads : LeadsOut (t .sizes .new) (t .sizes .vectors) (t .new .next) → TablesFault t room 13
 
 -- §6: "It refuses with 20, after 14 and before 15, a number that allows none of the V vectors or one beyond them"
 pub data VectorsFault (t : Tables) (room : ℕ) : ℕ → Type 0 where

@@ -1,7 +1,8 @@
 -- What is promised of maps over two tables.
+--   Begun t d                      the tables t are accepted, and d says where they show a difference at once
 --   MapOf t G d r                  the map d is right for the set G, and r is the number of the first round that adds nothing
 --   ToZeros z n0 n1 d d′           d′ is the map of the lists to the pairs for which d holds 0
---   Both t depth reach             depth is the map to pairs that show different outputs, and reach the map to alike pairs
+--   Both t depth reach             depth is the map to pairs that show a difference, and reach the map to alike pairs
 --   MapCounts z depth reach n k    n entries of depth are 0, and k of reach are not
 use mathlib.Core.Path.{_≡_}
 use mathlib.Core.List.{List}
@@ -10,12 +11,16 @@ use lib.ListN.{getD}
 use Rattle.machine.specs.declared.Pair.{Pair}
 use Rattle.machine.specs.declared.Sizes.{Sizes}
 use Rattle.numbers.specs.Meaning.Count.{countOf}
-use Rattle.machine.specs.Meaning.Tables.{Tables, pairs, In, Ok, AlikeIn}
+use Rattle.machine.specs.Meaning.Tables.{Tables, pairs, at, In, Ok, Flag, AlikeIn}
 use Rattle.machine.specs.Working.Maps.{FirstStill}
 use Rattle.machine.specs.Working.Pairs.{DiffersIn, stepIn}
 use Rattle.flags.specs.Working.{Flagged}
-use Rattle.places.specs.Working.{MapFor}
+use Rattle.places.specs.Working.{Good, MapFor}
 use Rattle.search.specs.Working.{Searched}
+
+pub record Begun (t : Tables) (d : List ℕ) : Type 0 where
+  pub good : Good t
+  pub flag : (p : Pair) → In (t .sizes) p → Flag (DiffersIn t p) (at (t .sizes) d p)
 
 pub record MapOf (t : Tables) (Goal : Pair → Type 0) (d : List ℕ) (r : ℕ) : Type 0 where
   pub complete : MapFor t Goal d

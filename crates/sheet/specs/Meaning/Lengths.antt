@@ -18,16 +18,16 @@ use Rattle.machine.specs.Meaning.Bounds.{mostTrace, mostRounds, mostList, trace
 use Rattle.sheet.specs.Meaning.Toggles.{merges, fours, both}
 
 abbrev pub shines : Machine
-shines = record { next = λ s v. 0; out = λ s v. 1 }
+shines = record { next = λ s v. 0; out = λ s v. 1; seen = λ s v. 0 }
 
 abbrev pub turns : Machine
-turns = record { next = λ s v. 1 - s; out = λ s v. s }
+turns = record { next = λ s v. 1 - s; out = λ s v. s; seen = λ s v. 0 }
 
 abbrev pub settles : Machine
-settles = record { next = λ s v. 1; out = λ s v. s }
+settles = record { next = λ s v. 1; out = λ s v. s; seen = λ s v. 0 }
 
 abbrev pub climbs : Machine
-climbs = record { next = λ s v. min (s + 1) 2; out = λ s v. s / 2 }
+climbs = record { next = λ s v. min (s + 1) 2; out = λ s v. s / 2; seen = λ s v. 0 }
 
 abbrev pub sized : ℕ → ℕ → Sizes
 sized s0 s1 = record { old = s0; new = s1; vectors = 1; allowed = everyVector 1 }

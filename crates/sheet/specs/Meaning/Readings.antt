@@ -74,7 +74,7 @@ abbrev pub imageIdle : List ℕ
 imageIdle = 0x10 ∷ 0x00 ∷ 0x00 ∷ 0x90 ∷ 0x00 ∷ 0x00 ∷ []
 
 abbrev pub shifts : Machine
-shifts = record { next = λ s v. s / 2 + 2 * v; out = λ s v. s % 2 }
+shifts = record { next = λ s v. s / 2 + 2 * v; out = λ s v. s % 2; seen = λ s v. 0 }
 
 abbrev pub four : Sizes
 four = record { old = 4; new = 4; vectors = 2; allowed = everyVector 2 }

@@ -61,12 +61,12 @@ pub record Drawn (b : List ℕ) (next out : ℕ → ℕ → ℕ) : Type 0 where
   pub steps : (s v : ℕ) → s < 2 → v < 2 → IsStep (decoded b) s v (record { next = next s v; out = out s v })
 
 module _ (a b : List ℕ) where
-  -- "designs and their own steps"
+  -- "designs and their own steps"; no net is watched
   abbrev pub old : Machine
-  old = machineOf (decoded a)
+  old = machineOf (decoded a) []
 
   abbrev pub new : Machine
-  new = machineOf (decoded b)
+  new = machineOf (decoded b) []
 
   -- "Its power-up states are all state numbers below 2 to the L"; "V is 2 to the I"; the sheet speaks of all V vectors
   abbrev pub sizes : Sizes

@@ -21,7 +21,7 @@ merged s zero = 2 - s
 merged s (suc v) = 2 + s / 2
 
 abbrev pub merges : Machine
-merges = record { next = merged; out = λ s v. s }
+merges = record { next = merged; out = λ s v. s; seen = λ s v. 0 }
 
 -- the next state of wakes
 abbrev pub woken : ℕ → ℕ → ℕ
@@ -29,7 +29,7 @@ woken s zero = s
 woken s (suc v) = 2 + s % 2
 
 abbrev pub wakes : Machine
-wakes = record { next = woken; out = λ s v. s / 3 }
+wakes = record { next = woken; out = λ s v. s / 3; seen = λ s v. 0 }
 
 abbrev pub fours : Sizes
 fours = record { old = 4; new = 4; vectors = 3; allowed = everyVector 3 }

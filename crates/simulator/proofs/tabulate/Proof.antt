@@ -1,35 +1,28 @@
--- `tabulate`: 3, 5, 9 and 12, then every clock.
-use Rattle.simulator.proofs.Room.{zero-tables, sound-table, fillable}
-use Rattle.simulator.proofs.Filling.{holds-design}
+-- `tabulate`: 3, 5, 9, 21 and 12, then every clock.
+use Rattle.simulator.proofs.Preparing.{sound-table, prepared-holds}
 use native.Mathlib.Omega.{arith}
-use mathlib.Core.Path.{_∙_}
 use borrow.Author.Needs.{needs}
 use Rattle.simulator.proofs.tabulate.Statement.{statement}
 use Rattle.simulator.proofs.tabulate.Tie as tie
 
-returns : tie.Need-returns
-returns c =
-    record {
-      keeps = (c .before .before .before .before .before .before .before .before .before .table-number .ensures .some (c .if1 .taken), zero-tables (c .before .before .before .before .before .before .before .clear-bytes .ensures) (c .before .before .before .clear-bytes2 .ensures));
-      size-next = c .before .before .before .before .before .before .before .clear-bytes .ensures .size;
-      size-out = c .before .before .before .clear-bytes2 .ensures .size;
-    }
+write-requires : tie.Need-write-requires
+write-requires c κs = λ e. (rw (c .before .before .before .before .shorter2 .ensures, c .before .before .before .before .before .shorter .ensures) at (c .before .before .before .prepare .ensures)) .fills e
 
-fill-requires : tie.Need-fill-requires
-fill-requires c κs = fillable _ _ _ (c .before .before .before .before .before .before .before .before .before .before .before .table-number .ensures .none (c .before .before .if1 .left)) (c .before .before .before .before .before .before .before .before .before .before .before .before .levelize .ensures) (c .before .before .before .before .before .before .before .before .before .clear-bytes .ensures) (c .before .before .before .before .before .clear-bytes2 .ensures)
+returns : tie.Need-returns
+returns c = record { keeps = ((rw (c .before .before .before .before .before .before .before .before .before .before .before .before .shorter2 .ensures, c .before .before .before .before .before .before .before .before .before .before .before .before .before .shorter .ensures) at (c .before .before .before .before .before .before .before .before .before .before .before .prepare .ensures)) .first .some (c .if1 .taken), c .before .before .before .before .before .before .before .write .ensures .zero (c .if1 .taken)); room = c .before .before .before .before .before .before .before .write .ensures .room }
 
 power-requires : tie.Need-power-requires
-power-requires c κs = omega (arith, sound-table _ _ _ (c .before .before .before .before .before .before .before .before .before .before .before .before .before .before .before .before .table-number .ensures .none (c .before .before .before .before .before .before .before .if1 .left)) .few-latches)
+power-requires c κs = omega (arith, sound-table _ _ _ ((rw (c .before .before .before .before .before .before .before .before .before .before .before .before .shorter2 .ensures, c .before .before .before .before .before .before .before .before .before .before .before .before .before .shorter .ensures) at (c .before .before .before .before .before .before .before .before .before .before .before .prepare .ensures)) .first .none (c .if1 .left)) .few-latches)
 
 power-requires-2 : tie.Need-power-requires-2
-power-requires-2 c κs = omega (arith, sound-table _ _ _ (c .before .before .before .before .before .before .before .before .before .before .before .before .before .before .before .before .before .table-number .ensures .none (c .before .before .before .before .before .before .before .before .if1 .left)) .few-inputs)
+power-requires-2 c κs = omega (arith, sound-table _ _ _ ((rw (c .before .before .before .before .before .before .before .before .before .before .before .before .before .shorter2 .ensures, c .before .before .before .before .before .before .before .before .before .before .before .before .before .before .shorter .ensures) at (c .before .before .before .before .before .before .before .before .before .before .before .before .prepare .ensures)) .first .none (c .before .if1 .left)) .few-inputs)
 
 returns-2 : tie.Need-returns-2
 returns-2 c =
+    let e = c .before .before .if1 .left in
     record {
-      keeps = (c .before .before .before .before .before .before .before .before .before .before .before .before .before .before .before .before .before .before .table-number .ensures .none (c .before .before .before .before .before .before .before .before .before .if1 .left), record { states = c .before .power .ensures .0; vectors = c .power2 .ensures .0; holds = holds-design _ _ _ _ _ (c .before .before .before .before .before .before .fill .ensures) });
-      size-next = c .before .before .before .before .before .before .fill .ensures .nexts .size ∙ c .before .before .before .before .before .before .before .before .before .before .before .before .before .before .before .before .clear-bytes .ensures .size;
-      size-out = c .before .before .before .before .before .before .fill .ensures .outs .size ∙ c .before .before .before .before .before .before .before .before .before .before .before .before .clear-bytes2 .ensures .size;
+      keeps = ((rw (c .before .before .before .before .before .before .before .before .before .before .before .before .before .before .shorter2 .ensures, c .before .before .before .before .before .before .before .before .before .before .before .before .before .before .before .shorter .ensures) at (c .before .before .before .before .before .before .before .before .before .before .before .before .before .prepare .ensures)) .first .none e, record { states = c .before .power .ensures .0; vectors = c .power2 .ensures .0; holds = prepared-holds ((rw (c .before .before .before .before .before .before .before .before .before .before .before .before .before .before .shorter2 .ensures, c .before .before .before .before .before .before .before .before .before .before .before .before .before .before .before .shorter .ensures) at (c .before .before .before .before .before .before .before .before .before .before .before .before .before .prepare .ensures))) e (c .before .before .before .before .before .before .before .before .before .write .ensures .filled e) });
+      room = c .before .before .before .before .before .before .before .before .before .write .ensures .room;
     }
 
 pub tabulate-spec : {M : Type 1} → statement M
@@ -39,13 +32,14 @@ tabulate-spec =
     (λ c κs. search needs)
     (λ c κs. search needs)
     (λ c κs. search needs)
-    (λ c κs. search needs)
+    write-requires
+    (λ c. search needs)
     (λ c. search needs)
     (λ c. search needs)
     returns
-    fill-requires
     power-requires
     power-requires-2
+    (λ c. search needs)
     (λ c. search needs)
     (λ c. search needs)
     returns-2)

@@ -5,10 +5,10 @@ use Rattle.brute_designs.proofs.compare.wrong_entry.Statement.{statemen
 use Rattle.brute_designs.proofs.compare.wrong_entry.Tie as tie
 
 abbrev Inv-loop : tie.InvT-loop
-Inv-loop list number next out entries k₀ k = Unit {0}
+Inv-loop list nets n number next out seen entries watched k₀ k = Unit {0}
 
 abbrev μ-loop : tie.MeasureT-loop
-μ-loop list number next out entries k₀ k = 720 - k
+μ-loop list nets n number next out seen entries watched k₀ k = 720 - k
 
 pub wrong-entry-spec : {M : Type 1} → statement M
 wrong-entry-spec =
@@ -17,8 +17,12 @@ wrong-entry-spec =
     Inv-loop
     μ-loop
     (λ c κs. search needs)
+    (λ c κs. search needs)
     (λ c. search needs)
     (λ c κs. search needs)
+    (λ c κs. search needs)
+    (λ c. search needs)
+    (λ c. search needs)
     (λ c. search needs)
     (λ c. search needs)
     (λ c. search needs)

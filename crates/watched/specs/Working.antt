@@ -1,0 +1,2 @@
+-- Definitions that only private contracts and proofs cite.
+pub mod Watching
