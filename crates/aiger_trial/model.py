@@ -155,15 +155,16 @@ def answer(text, draw):
     return data.hex(" ").upper()
 
 
-# The most bytes that `convert` takes, and how many of a text the program has room for.
+# The most bytes of a text that `convert` reads whole, and how many it reads of a longer one; what it says where these have no line feed.
 MOST = 2 ** 20
 ROOM = MOST + 1
+OPEN = "convert: no line feed in the first 1,048,577 bytes, and no more are read"
 
 
 def answers(text, said):
     """The program's two lines on a text of which this is read: with the design beside a refusal, and what `convert` writes, and where."""
     read = said + " BESIDE 10 00 00 00" if said.startswith("REFUSED") else said
-    return f"{read}\n" + ("2 convert: the text is longer than 1,048,576 bytes" if len(text) > MOST else f"1 {said}")
+    return f"{read}\n" + (f"2 {OPEN}" if len(text) > MOST and b"\n" not in text else f"1 {said}")
 
 
 # Questions.
@@ -540,9 +541,14 @@ def lengths():
         yield 17, f"{name} of zeros", long(b"")
         yield 17, f"{name}, header without a line feed", long(b"aag 0 0 0 0 0")
         yield 17, f"{name}, last line without a line feed", long(p[:-1])
+        yield 17, f"{name}, an AND line missing", long(b"aag 2 1 0 1 1\n2\n4\n")
+        yield 17, f"{name}, a line misspelled", long(b"aag 2 1 1 1 0\n02\n4 2\n4\n")
         yield 3, f"{name}, M 512", long(b"aag 512 0 0 0 0\n")
+        yield 3, f"{name}, 256 ANDs and 1 NOT", long(row_of(256, 1))
         yield 9, f"{name}, AND on itself", long(b"aag 1 0 0 1 1\n2\n2 2 2\n")
         yield 18, f"{name}, no driver", long(b"aag 1 0 0 1 0\n2\n")
+    yield 17, "a mebibyte of zeros and a line feed", b"".ljust(MOST, b"\0") + b"\n"
+    yield 17, "a mebibyte of a header line and a line feed", b"aag 0 0 0 0 0".ljust(MOST, b"\0") + b"\n"
     for text, name in (p, "P"), (q, "Q"):
         for cut in range(len(text), 0, -1):
             yield "ok" if cut == len(text) else 17, f"{name}, {cut} bytes", text[:cut]

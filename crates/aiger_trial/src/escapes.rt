@@ -1,6 +1,7 @@
 // The bytes that a text with escapes spells.
 ghost use Prim.Native.Nat.{_+_, _<_, _≤_};
 ghost use lib.ListN.{length};
+ghost use Rattle.memory.specs.Meaning.Slices.{atExit};
 use converter::Text;
 
 // Whether a text is spelled by the rules and has room, and how many bytes were written.
@@ -11,7 +12,7 @@ pub(crate) struct Decoded {
 
 // Writes the bytes that are spelled behind a colon.
 pub(crate) fn decode(spelled: &[u8], text: &mut [u8]) -> Decoded
-    ensures { λ r. ⌜ r .bytes ≤ length (now (text .exit)) ⌝ }
+    ensures { λ r. ⌜ r .bytes ≤ length (atExit text) ⌝ }
 {
     let mut n = 0;
     let mut at = 1;

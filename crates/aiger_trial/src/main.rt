@@ -7,6 +7,7 @@ mod escapes;
 ghost use mathlib.Core.Path.{_≡_};
 ghost use Prim.Native.Nat.{_+_, _≤_};
 ghost use lib.ListN.{length};
+ghost use Rattle.memory.specs.Meaning.Slices.{lengthAtEntry};
 ghost use Rattle.converter.specs.Meaning.Output.{mostText};
 use converter::Text;
 use image::Answer;
@@ -40,7 +41,7 @@ fn ask_all(all: &[u8], room: &mut [u8])
 // Where the first such byte stands at or behind a place, or else the end.
 fn find(line: &[u8], from: usize, byte: u8) -> usize
     requires { ⌜ from ≤ length (now line) ⌝ }
-    ensures { λ r. ⌜ (from ≤ r) × (r ≤ length (now (line .entry))) ⌝ }
+    ensures { λ r. ⌜ (from ≤ r) × (r ≤ lengthAtEntry line) ⌝ }
 {
     let mut i = from;
     while i < line.len() {

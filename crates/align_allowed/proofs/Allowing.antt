@@ -18,7 +18,7 @@ use Rattle.panel.specs.declared.Panel.{Panel}
 use Rattle.align_report.specs.Meaning.Report.{Reports, Prints, ownTables, ownSlices, mostRead}
 use Rattle.align_report.proofs.Cut.{same-bit, whole-input}
 use Rattle.align_report.proofs.Determined.{prints-unique}
-use Rattle.align_report.proofs.Images.{rest}
+use Rattle.image.proofs.Front.{rest}
 use Rattle.align_allowed.specs.Meaning.Allowing.{allowedIn, imagesIn, OutputsAllowed, mostReadAllowed, unreadAllowed}
 
 -- four fields of 16 bits, one behind the other

@@ -3,6 +3,7 @@
 ghost use mathlib.Core.Path.{_≡_};
 ghost use Prim.Native.Nat.{_+_, _*_, _≤_};
 ghost use lib.ListN.{length};
+ghost use Rattle.memory.specs.Meaning.Slices.{atEntry, atExit};
 ghost use Rattle.streams.specs.Meaning.Input.{Within};
 ghost use Rattle.streams.specs.Meaning.Output.{Sends};
 ghost use Rattle.align_allowed.specs.Meaning.Allowing.{allowedIn, OutputsAllowed, mostReadAllowed, unreadAllowed};
@@ -36,7 +37,7 @@ fn main() {
 // Puts what the program writes of its room into a text: what it prints of what was read, or the words that nothing could be read.
 fn answer(room: &[u8], input: Input, text: &mut [u8]) -> Output
     requires { ⌜ (length (now room) ≡ mostReadAllowed) × (Within input (now room)) × (400 + 12 * 32768 ≤ length (now text)) ⌝ }
-    ensures { λ r. ⌜ Sends unreadAllowed OutputsAllowed input (now (room .entry)) (now (text .exit)) (r .stream) (r .length) ⌝ }
+    ensures { λ r. ⌜ Sends unreadAllowed OutputsAllowed input (atEntry room) (atExit text) (r .stream) (r .length) ⌝ }
 {
     let Input::Read(n) = input else {
         return streams::put_unread(b"align_allowed: standard input cannot be read\n", text);
@@ -51,7 +52,7 @@ fn answer(room: &[u8], input: Input, text: &mut [u8]) -> Output
 
 // The number in the first eight bytes, of which the first is the most significant; past their end there are zeros.
 fn allowed_in(input: &[u8]) -> u64
-    ensures { λ r. ⌜ r ≡ allowedIn (now (input .entry)) ⌝ }
+    ensures { λ r. ⌜ r ≡ allowedIn (atEntry input) ⌝ }
 {
     let parts = reader::run(input, 0, 16, 16, 16, 16, 0);
     let high = parts.first as u64 * 65536 + parts.second as u64;

@@ -13,12 +13,13 @@ use Rattle.limits.proofs.Sizes.{bytes-le-most}
 use Rattle.reader.specs.Meaning.Fields.{bitAt}
 use Rattle.format.specs.Meaning.Format.{versionIn, latchesIn, outputsIn, countIn, bytesIn}
 use Rattle.format.specs.Meaning.Faults.{ImageFault, HeaderFault}
+use Rattle.format.specs.Meaning.Front.{frontIn, restIn, FrontRefused, FrontAccepted}
 use Rattle.format.proofs.Refusals.{within-limits}
 use Rattle.image.proofs.Long.{SameFront, same-bytes-in, header-there, free-there, never-free, lowest-there}
 use Rattle.machine.specs.Meaning.Lent.{Lent}
 use Rattle.compare.specs.Meaning.Comparing.{TablesLent}
 use Rattle.panel.specs.declared.Panel.{Panel}
-use Rattle.align_report.specs.Meaning.Report.{oldBytes, newBytes, OldRefused, OldAccepted, Answers, Prints, mostRead}
+use Rattle.align_report.specs.Meaning.Report.{Answers, Prints, mostRead}
 
 pub same-bit : (b c : List ℕ) (i : ℕ) → getD b (i / 8) 0 ≡ getD c (i / 8) 0 → bitAt b i ≡ bitAt c i
 unfolding bitAt
@@ -41,27 +42,27 @@ module _ (b : List ℕ) (long : mostRead ≤ length b) where
     few : bytesIn cut ≤ mostBytes
     few = let w = within-limits free in bytes-le-most (versionIn cut) (countIn cut) (latchesIn cut) (outputsIn cut) (w .few-cells) (w .few-latches) (w .few-outputs)
 
-    same-old : oldBytes cut ≡ oldBytes b
+    same-old : frontIn cut ≡ frontIn b
     same-old = take-take (bytesIn cut) mostRead b (omega (arith, few)) ∙ ap (λ (k : ℕ). take k b) same-size
 
-    behind : SameFront (newBytes cut) (newBytes b)
+    behind : SameFront (restIn cut) (restIn b)
     behind = record {
       long-one = omega (arith, few, size, length-drop (bytesIn cut) cut);
       long-other = omega (arith, few, same-size, length-drop (bytesIn b) b);
-      bits = λ i h. same-bit (newBytes cut) (newBytes b) i (byte (i / 8) (omega arith));
+      bits = λ i h. same-bit (restIn cut) (restIn b) i (byte (i / 8) (omega arith));
     }
       where
-        byte : (k : ℕ) → k < mostBytes → getD (newBytes cut) k 0 ≡ getD (newBytes b) k 0
+        byte : (k : ℕ) → k < mostBytes → getD (restIn cut) k 0 ≡ getD (restIn b) k 0
         byte k h =
             getD-drop (bytesIn cut) cut k 0 ∙ getD-take mostRead b (bytesIn cut + k) 0 (omega (arith, few))
             ∙ ap (λ (m : ℕ). getD b (m + k) 0) same-size ∙ sym (getD-drop (bytesIn b) b k 0)
 
-  old-accepted : OldAccepted cut → OldAccepted b
+  old-accepted : FrontAccepted cut → FrontAccepted b
   old-accepted a = record { header = free-there whole (a .header); image = subst (λ (l : List ℕ). Free (ImageFault l)) (same-old (a .header)) (a .image) }
 
-  old-refused : {k : ℕ} → OldRefused cut k → OldRefused b k
-  old-refused {k} (OldRefused.header l) = OldRefused.header (header-there whole l)
-  old-refused {k} (OldRefused.image f l) = OldRefused.image (free-there whole f) (subst (λ (c : List ℕ). First (ImageFault c) k) (same-old f) l)
+  old-refused : {k : ℕ} → FrontRefused cut k → FrontRefused b k
+  old-refused {k} (FrontRefused.header l) = FrontRefused.header (header-there whole l)
+  old-refused {k} (FrontRefused.image f l) = FrontRefused.image (free-there whole f) (subst (λ (c : List ℕ). First (ImageFault c) k) (same-old f) l)
 
   pub cut-input : (p : Panel) (n : TablesLent) (s : Lent) (l t : List ℕ) → Answers p cut n s l t → Answers p b n s l t
   cut-input p n s l t (Answers.old-refused k r z e) = Answers.old-refused k (old-refused r) z e

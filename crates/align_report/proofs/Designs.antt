@@ -14,7 +14,7 @@ use Rattle.netlist.specs.Meaning.Nets.{statesOf}
 use Rattle.machine.specs.declared.Pair.{Pair}
 use Rattle.machine.specs.declared.Sizes.{Sizes}
 use Rattle.machine.specs.Meaning.Lists.{Each}
-use Rattle.machine.specs.Meaning.Tables.{In, Ok, Tables, tablesOf, bothTables, oldMachine, newMachine}
+use Rattle.machine.specs.Meaning.Tables.{In, Ok, Tables, tablesOf, oldMachine, newMachine}
 use Rattle.machine.specs.Working.Pairs.{SameMachine}
 use Rattle.machine.proofs.Numbers.{same-pair}
 use Rattle.machine.specs.Meaning.Lent.{Lent, Left}
@@ -25,12 +25,12 @@ use Rattle.verdict.specs.Meaning.Decision as D
 use Rattle.verdict.proofs.Verdict as verdict
 use Rattle.compare.specs.Meaning.Designs.{machineOf, sizesOf}
 use Rattle.compare.specs.Meaning.Comparing.{TablesLent, TablesLeft, tablesLeftOf, CompareFault, Compared, ClearedAll, Compares}
-use Rattle.compare.proofs.Agreement.{old-same, new-same}
+use Rattle.compare.proofs.Agreement.{holds-gives, old-same, new-same}
 use Rattle.compare.proofs.Lengths.{designs-stay}
 use Rattle.report.specs.declared.Facts.{Facts}
 use Rattle.report.specs.declared.Side.the-variants.{Both}
 use Rattle.pieces.specs.Meaning.Pieces.{Printed}
-use Rattle.report.specs.Meaning.Text.{refusalText, sameText, apartText, apartIn, shownLine}
+use Rattle.report.specs.Meaning.Text.{refusalText, sameText, apartText, shownTables, apartIn, shownLine}
 use Rattle.report.proofs.Listing.{apart-same}
 use Rattle.align_report.specs.Meaning.Report.{FactsOf, AnswersDesigns}
 use Rattle.align_report.specs.Working.Tabled.{numberOf, ReportsDesigns}
@@ -60,7 +60,7 @@ module _ {a b : Design} {allowed : ℕ} {n : TablesLent} {s : Lent} {t : TablesL
 module _ {a b : Design} {allowed : ℕ} {n : TablesLent} {s : Lent} (t0 t1 : Table) {e : Left} {j : Judged} {p : Pair} {m : ℕ}
     (c : Compares a b [] [] allowed n s (tablesLeftOf t0 t1) e j) (is : j .verdict ≡ Verdict.Apart p m) where
   abbrev shown : Sizes → Tables
-  shown z = bothTables z (t0 .next) (t0 .out) [] (t1 .next) (t1 .out) []
+  shown z = shownTables z (t0 .next) (t0 .out) (t1 .next) (t1 .out)
 
   abbrev t : Tables
   t = shown (sizesOf a b allowed)
@@ -72,10 +72,10 @@ module _ {a b : Design} {allowed : ℕ} {n : TablesLent} {s : Lent} (t0 t1 : Tab
   w = found-apart c is
 
   old : SameMachine (Ok (sizesOf a b allowed)) (statesOf a) (oldMachine whole) (machineOf a [])
-  old = old-same a b [] [] allowed t0 t1 (same-inputs (w .0)) (w .1 .old) (w .1 .new)
+  old = old-same a b [] [] allowed t0 t1 (same-inputs (w .0)) (holds-gives (w .1 .old)) (holds-gives (w .1 .new))
 
   new : SameMachine (Ok (sizesOf a b allowed)) (statesOf b) (newMachine whole) (machineOf b [])
-  new = new-same a b [] [] allowed t0 t1 (same-inputs (w .0)) (w .1 .old) (w .1 .new)
+  new = new-same a b [] [] allowed t0 t1 (same-inputs (w .0)) (holds-gives (w .1 .old)) (holds-gives (w .1 .new))
 
   apart-there : (f : Facts) (l : List ℕ) → In (sizesOf a b allowed) p → Each (Ok (sizesOf a b allowed)) l → apartIn t f p l ≡ apartText (machineOf a []) (machineOf b []) f p l
   apart-there f l =

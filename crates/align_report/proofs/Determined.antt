@@ -6,15 +6,15 @@ use lib.ListN.{length, take}
 use Rattle.memory.proofs.Orders.{first-unique}
 use Rattle.memory.proofs.Slices.{zero-unique}
 use Rattle.netlist.specs.declared.Design.{Design}
-use Rattle.netlist.specs.Meaning.Nets.{vectorsOf}
-use Rattle.machine.specs.Meaning.Allowed.{everyVector}
+use Rattle.format.specs.Meaning.Front.{frontDesign}
+use Rattle.format.proofs.Front.{front-number, front-not-both}
 use Rattle.machine.specs.Meaning.Lent.{Lent}
 use Rattle.machine.specs.Meaning.Tables.{Ok}
 use Rattle.machine.specs.Working.Pairs.{Closed}
 use Rattle.machine.proofs.Counting.{counts-unique}
 use Rattle.verdict.specs.Meaning.Decision.{Decision, Decided, same, apart}
 use Rattle.verdict.proofs.Laws.{decision-unique, list-unique}
-use Rattle.compare.specs.Meaning.Designs.{machineOf, sizesOf}
+use Rattle.compare.specs.Meaning.Designs.{machineOf, sizesOf, allVectors}
 use Rattle.compare.specs.Meaning.Comparing.{TablesLent}
 use Rattle.compare.proofs.Lengths.{designs-stay}
 use Rattle.report.specs.declared.Facts.{Facts}
@@ -25,7 +25,7 @@ use Rattle.streams.specs.declared.Input.{Input}
 use Rattle.streams.specs.Meaning.Output.{Sends}
 use Rattle.streams.proofs.Sending.{one-answer}
 use Rattle.panel.specs.declared.Panel.{Panel}
-use Rattle.align_report.specs.Meaning.Report.{oldDesign, OldRefused, OldAccepted, FactsOf, AnswersDesigns, Answers, ownTables, ownSlices, Prints, Outputs, unreadMessage}
+use Rattle.align_report.specs.Meaning.Report.{FactsOf, AnswersDesigns, Answers, ownTables, ownSlices, Prints, Outputs, unreadMessage}
 
 facts-unique : (a b : Design) (m : ℕ) (f g : Facts) → FactsOf a b m f → FactsOf a b m g → f ≡ g
 facts-unique a b c f g x y =
@@ -44,17 +44,6 @@ closed a b m = designs-stay a b [] [] m (Ok (sizesOf a b m))
 -- one number, one text
 same-refusal : (x : Side) {n m : ℕ} {t u : List ℕ} → n ≡ m → t ≡ refusalText x n → u ≡ refusalText x m → t ≡ u
 same-refusal x e p q = p ∙ ap (refusalText x) e ∙ sym q
-
-module _ (b : List ℕ) where
-  old-number : {i j : ℕ} → OldRefused b i → OldRefused b j → i ≡ j
-  old-number (OldRefused.header x) (OldRefused.header y) = first-unique x y
-  old-number {i} (OldRefused.header x) (OldRefused.image f y) = absurd (f i (x .applies))
-  old-number {i} {j} (OldRefused.image f x) (OldRefused.header y) = absurd (f j (y .applies))
-  old-number (OldRefused.image f x) (OldRefused.image g y) = first-unique x y
-
-  not-both : {i : ℕ} → OldRefused b i → OldAccepted b → ⊥
-  not-both {i} (OldRefused.header x) a = a .header i (x .applies)
-  not-both {i} (OldRefused.image f x) a = a .image i (x .applies)
 
 module _ (l k : List ℕ) (long : length l ≡ length k) where
   module _ (a b : Design) (m : ℕ) (n : TablesLent) (s : Lent) where
@@ -85,11 +74,11 @@ module _ (l k : List ℕ) (long : length l ≡ length k) where
 
   -- so no two texts answer one input, nor two list slices of one length
   pub answers-unique : (p : Panel) (b : List ℕ) (n : TablesLent) (s : Lent) {t u : List ℕ} → Answers p b n s l t → Answers p b n s k u → (t ≡ u) × (l ≡ k)
-  answers-unique panel b n s (Answers.old-refused i x z p) (Answers.old-refused j y w q) = (same-refusal Old (old-number b x y) p q, zero-unique l k long z w)
-  answers-unique panel b n s (Answers.old-refused i x z p) (Answers.new-refused j a y w q) = absurd (not-both b x a)
-  answers-unique panel b n s (Answers.old-refused i x z p) (Answers.designs a y d) = absurd (not-both b x a)
-  answers-unique panel b n s (Answers.new-refused i a x z p) (Answers.old-refused j y w q) = absurd (not-both b y a)
-  answers-unique panel b n s (Answers.designs a x c) (Answers.old-refused j y w q) = absurd (not-both b y a)
+  answers-unique panel b n s (Answers.old-refused i x z p) (Answers.old-refused j y w q) = (same-refusal Old (front-number x y) p q, zero-unique l k long z w)
+  answers-unique panel b n s (Answers.old-refused i x z p) (Answers.new-refused j a y w q) = absurd (front-not-both x a)
+  answers-unique panel b n s (Answers.old-refused i x z p) (Answers.designs a y d) = absurd (front-not-both x a)
+  answers-unique panel b n s (Answers.new-refused i a x z p) (Answers.old-refused j y w q) = absurd (front-not-both y a)
+  answers-unique panel b n s (Answers.designs a x c) (Answers.old-refused j y w q) = absurd (front-not-both y a)
   answers-unique panel b n s (Answers.new-refused i a x z p) (Answers.new-refused j o y w q) = (same-refusal New (first-unique x y) p q, zero-unique l k long z w)
   answers-unique panel b n s (Answers.new-refused i a x z p) (Answers.designs o y d) = absurd (y i (x .applies))
   answers-unique panel b n s (Answers.designs a x c) (Answers.new-refused j o y w q) = absurd (x j (y .applies))
@@ -98,7 +87,7 @@ module _ (l k : List ℕ) (long : length l ≡ length k) where
 -- a panel that names every vector of the designs is `Panel.Every`
 module _ (b : List ℕ) (n : TablesLent) (s : Lent) where
   abbrev Named : Panel
-  Named = Panel.Named (everyVector (vectorsOf (oldDesign b)))
+  Named = Panel.Named (allVectors (frontDesign b))
 
   pub every-named : {l t : List ℕ} → Answers Named b n s l t → Answers Panel.Every b n s l t
   every-named (Answers.old-refused k r z e) = Answers.old-refused k r z e

@@ -2,10 +2,7 @@
 use Prim.Native.Nat.{ℕ, _-_, _≤_}
 use mathlib.Core.Path.{_≡_, subst}
 use mathlib.Core.List.{List}
-use native.Mathlib.Omega.{arith}
-use lib.ListN.{length, take, drop, length-drop}
-use lib.Seq.{take-all}
-use Rattle.numbers.proofs.Order.{le-of-not-lt}
+use lib.ListN.{length, take, drop}
 use Rattle.memory.specs.Meaning.Refusals.{Free, First}
 use Rattle.memory.specs.Meaning.Slices.{Zero}
 use Rattle.image.specs.declared.Length.{Length}
@@ -21,26 +18,14 @@ use Rattle.report.specs.Meaning.Text.{refusalText}
 use Rattle.netlist.specs.Meaning.Nets.{vectorsOf}
 use Rattle.netlist.proofs.Numbers.{sound-of}
 use Rattle.image.proofs.Accepted.{image-accepted}
+use Rattle.image.proofs.Front.{rest, front-unmeasured, front-read, front-unread}
 use Rattle.panel.specs.declared.Panel.{Panel}
 use Rattle.panel.specs.Meaning.Panel.{allowedBy}
-use Rattle.align_report.specs.Meaning.Report.{OldRefused, OldAccepted, Answers, Reports}
+use Rattle.align_report.specs.Meaning.Report.{Answers, Reports}
 use Rattle.align_report.specs.Working.Tabled.{numberOf, ReportsDesigns}
-
--- what stands behind the old image, as it is lent
-pub rest : (m : ℕ) (b : List ℕ) → take (length b - m) (drop m b) ≡ drop m b
-rest m b = take-all (length b - m) (drop m b) (omega (arith, length-drop m b))
-
--- the image at the front of the input ends within it
-pub front-fits : {b : List ℕ} {n : ℕ} → Measures b (Length.Bytes n) → n ≤ length b
-front-fits w = let e = w .keeps .1 in rw e (le-of-not-lt (λ h. w .keeps .0 4 (ImageFault.ends h, omega arith)))
 
 read-rest : (b : List ℕ) (m : ℕ) (g : Reading) → ReadsImage (take (length b - m) (drop m b)) g → ReadsImage (drop m b) g
 read-rest b m g u = subst (λ (l : List ℕ). ReadsImage l g) (rest m b) u
-
-old-read : {b : List ℕ} {m : ℕ} {f : Reading} → Measures b (Length.Bytes m) → ReadsImage (take m b) f → f .answer ≡ Answer.Accepted → OldAccepted b
-old-read {b} {m} {f} w d e =
-    let x = rw e at (d .keeps) in
-    record { header = w .keeps .0; image = subst (λ (j : ℕ). Free (ImageFault (take j b))) (w .keeps .1) (x .0) }
 
 -- an accepted image has few inputs
 pub read-few : {b : List ℕ} {f : Reading} → ReadsImage b f → f .answer ≡ Answer.Accepted → f .design .inputs ≤ 6
@@ -50,17 +35,14 @@ module _ {o : Panel} {b : List ℕ} {n : TablesLent} {s : Lent} {list′ text′
   pub old-unmeasured : {m : Length} {k q : ℕ} → Measures b m → m ≡ Length.Refused k → q ≡ numberOf (lengthReply m)
       → Zero list′ → length list′ ≡ s .written → Printed (refusalText Old q) text′ r → Reports o b n s list′ text′ r
   old-unmeasured {k = k} w e i z l p =
-      let x = rw e at w in
       let j : _ ≡ k = rw e at i in
-      record { answers = Answers.old-refused k (OldRefused.header (x .keeps .0)) z (rw (← j) (p .is)); counts = p .counts; kept = l }
+      record { answers = Answers.old-refused k (front-unmeasured (rw e at w)) z (rw (← j) (p .is)); counts = p .counts; kept = l }
 
   pub old-unread : {m k q : ℕ} {f : Reading} → Measures b (Length.Bytes m) → ReadsImage (take m b) f → f .answer ≡ Answer.Refused k → q ≡ numberOf (readReply (f .answer) emptyDesign)
       → Zero list′ → length list′ ≡ s .written → Printed (refusalText Old q) text′ r → Reports o b n s list′ text′ r
   old-unread {m} {k} {q} {f} w d e i z l p =
-      let x = rw e at (d .keeps) in
-      let y = subst (λ (j : ℕ). First (ImageFault (take j b)) k) (w .keeps .1) (x .0) in
       let j : q ≡ k = rw e at i in
-      record { answers = Answers.old-refused k (OldRefused.image (w .keeps .0) y) z (rw (← j) (p .is)); counts = p .counts; kept = l }
+      record { answers = Answers.old-refused k (front-unread w d e) z (rw (← j) (p .is)); counts = p .counts; kept = l }
 
   pub new-unread : {m k q : ℕ} {f g : Reading} → Measures b (Length.Bytes m) → ReadsImage (take m b) f → f .answer ≡ Answer.Accepted
       → ReadsImage (take (length b - m) (drop m b)) g → g .answer ≡ Answer.Refused k → q ≡ numberOf (readReply (g .answer) emptyDesign)
@@ -69,7 +51,7 @@ module _ {o : Panel} {b : List ℕ} {n : TablesLent} {s : Lent} {list′ text′
       let x = rw e at (read-rest b m g u .keeps) in
       let y = subst (λ (j : ℕ). First (ImageFault (drop j b)) k) (w .keeps .1) (x .0) in
       let j : q ≡ k = rw e at i in
-      record { answers = Answers.new-refused k (old-read w d a) y z (rw (← j) (p .is)); counts = p .counts; kept = l }
+      record { answers = Answers.new-refused k (front-read w d a) y z (rw (← j) (p .is)); counts = p .counts; kept = l }
 
   pub both-read : {m : ℕ} {f g : Reading} → Measures b (Length.Bytes m) → ReadsImage (take m b) f → f .answer ≡ Answer.Accepted
       → ReadsImage (take (length b - m) (drop m b)) g → g .answer ≡ Answer.Accepted → ReportsDesigns (f .design) (g .design) (allowedBy o (vectorsOf (f .design))) n s list′ text′ r → Reports o b n s list′ text′ r
@@ -78,7 +60,7 @@ module _ {o : Panel} {b : List ℕ} {n : TablesLent} {s : Lent} {list′ text′
       let y = rw c at (read-rest b m g u .keeps) in
       let e = w .keeps .1 in
       record {
-        answers = Answers.designs (old-read w d a) (subst (λ (j : ℕ). Free (ImageFault (drop j b))) e (y .0)) (rw (← e, ← x .1, ← y .1) (p .answers));
+        answers = Answers.designs (front-read w d a) (subst (λ (j : ℕ). Free (ImageFault (drop j b))) e (y .0)) (rw (← e, ← x .1, ← y .1) (p .answers));
         counts = p .counts;
         kept = p .kept;
       }

@@ -12,6 +12,7 @@ use Rattle.netlist.specs.declared.Design.{Design}
 use Rattle.netlist.specs.Meaning.Faults.{Accepted}
 use Rattle.simulator.specs.Meaning.Tables.{sizeOf, TableFault, InterfaceFault, BothFault}
 use Rattle.format.specs.Meaning.Faults.{ImageFault}
+use Rattle.format.specs.Meaning.Front.{frontIn, restIn, frontDesign, FrontAccepted}
 use Rattle.image.proofs.Accepted.{image-accepted}
 use Rattle.netlist.specs.Meaning.Nets.{vectorsOf}
 use Rattle.machine.specs.Meaning.Allowed.{WrongAllowed}
@@ -27,7 +28,7 @@ use Rattle.compare.proofs.Lengths.{first-same}
 use Rattle.compare.proofs.Watched.{nothing-watchable}
 use Rattle.panel.specs.declared.Panel.{Panel}
 use Rattle.panel.specs.Meaning.Panel.{allowedBy}
-use Rattle.align_report.specs.Meaning.Report.{oldBytes, newBytes, oldDesign, newDesign, OldAccepted, ownTables, ownSlices}
+use Rattle.align_report.specs.Meaning.Report.{newDesign, ownTables, ownSlices}
 
 -- 8192 entries are enough for the tables of any accepted design, and 16384 for the pairs of any two
 pub table-most : {d : Design} → Accepted d → sizeOf d ≤ 8192
@@ -52,20 +53,20 @@ module _ {a b : Design} {m i : ℕ} (x : Accepted a) (y : Accepted b) where
   only (CompareFault.vectors w) = inr (refl, w)
   only (CompareFault.list (short l w h)) = inl (inr refl)
 
-module _ (b : List ℕ) (i k : ℕ) (x : OldAccepted b) (y : Free (ImageFault (newBytes b))) where
+module _ (b : List ℕ) (i k : ℕ) (x : FrontAccepted b) (y : Free (ImageFault (restIn b))) where
   abbrev Applies : ℕ → Type 0
-  Applies m = CompareFault (oldDesign b) (newDesign b) [] [] m ownTables (ownSlices i) k
+  Applies m = CompareFault (frontDesign b) (newDesign b) [] [] m ownTables (ownSlices i) k
 
-  any : (m : ℕ) → Applies m → ((k ≡ 10) ⊎ (k ≡ 16)) ⊎ ((k ≡ 20) × WrongAllowed (sizesOf (oldDesign b) (newDesign b) m))
-  any m f = only (image-accepted (oldBytes b) (x .image)) (image-accepted (newBytes b) y) f
+  any : (m : ℕ) → Applies m → ((k ≡ 10) ⊎ (k ≡ 16)) ⊎ ((k ≡ 20) × WrongAllowed (sizesOf (frontDesign b) (newDesign b) m))
+  any m f = only (image-accepted (frontIn b) (x .image)) (image-accepted (restIn b) y) f
 
-  pub refused-named : (m : ℕ) → First (CompareFault (oldDesign b) (newDesign b) [] [] m ownTables (ownSlices i)) k → ((k ≡ 10) ⊎ (k ≡ 16)) ⊎ (k ≡ 20)
+  pub refused-named : (m : ℕ) → First (CompareFault (frontDesign b) (newDesign b) [] [] m ownTables (ownSlices i)) k → ((k ≡ 10) ⊎ (k ≡ 16)) ⊎ (k ≡ 20)
   refused-named m l = ⊎-elim (λ e. inl e) (λ e. inr (e .0)) (any m (l .applies))
 
-  pub refused-both : First (CompareFault (oldDesign b) (newDesign b) [] [] (allowedBy Panel.Every (vectorsOf (oldDesign b))) ownTables (ownSlices i)) k → (k ≡ 10) ⊎ (k ≡ 16)
-  refused-both l = ⊎-elim (λ e. e) (λ e. absurd (ones-right (vectors-some (oldDesign b)) refl (e .1))) (any _ (l .applies))
+  pub refused-both : First (CompareFault (frontDesign b) (newDesign b) [] [] (allowedBy Panel.Every (vectorsOf (frontDesign b))) ownTables (ownSlices i)) k → (k ≡ 10) ⊎ (k ≡ 16)
+  refused-both l = ⊎-elim (λ e. e) (λ e. absurd (ones-right (vectors-some (frontDesign b)) refl (e .1))) (any _ (l .applies))
 
 -- request §7: 16 says that the designs are the same, with a list of more steps than the list slice has bytes
-pub long-list : (b : List ℕ) (i m : ℕ) → traceRoom ≤ i → First (CompareFault (oldDesign b) (newDesign b) [] [] m ownTables (ownSlices i)) 16
-    → (l : List ℕ) × IsSame (machineOf (oldDesign b) []) (machineOf (newDesign b) []) (Ok (sizesOf (oldDesign b) (newDesign b) m)) (sizesOf (oldDesign b) (newDesign b) m) l × (i < length l)
-long-list b i m room f = first-same (oldDesign b) (newDesign b) [] [] m f room
+pub long-list : (b : List ℕ) (i m : ℕ) → traceRoom ≤ i → First (CompareFault (frontDesign b) (newDesign b) [] [] m ownTables (ownSlices i)) 16
+    → (l : List ℕ) × IsSame (machineOf (frontDesign b) []) (machineOf (newDesign b) []) (Ok (sizesOf (frontDesign b) (newDesign b) m)) (sizesOf (frontDesign b) (newDesign b) m) l × (i < length l)
+long-list b i m room f = first-same (frontDesign b) (newDesign b) [] [] m f room

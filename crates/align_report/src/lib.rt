@@ -7,10 +7,10 @@ ghost use mathlib.Core.Path.{_≡_};
 ghost use Prim.Native.Nat.{_+_, _*_, _≤_};
 ghost use mathlib.Core.List.{[]};
 ghost use lib.ListN.{length};
-ghost use Rattle.memory.specs.Meaning.Slices.{Zero};
-ghost use Rattle.memory.specs.Meaning.Tables.{tableOf, lengthsOf};
+ghost use Rattle.memory.specs.Meaning.Slices.{atEntry, lengthAtEntry, atExit, Zero};
+ghost use Rattle.memory.specs.Meaning.Tables.{tableLengthsAtEntry};
 ghost use Rattle.netlist.specs.Meaning.Faults.{Accepted};
-ghost use Rattle.machine.specs.Meaning.Lent.{lentOf};
+ghost use Rattle.machine.specs.Meaning.Lent.{lengthsAtEntry};
 ghost use Rattle.machine.specs.Meaning.Tables.{Ok};
 ghost use Rattle.verdict.specs.Meaning.Decision.{CountsPairs};
 ghost use Rattle.compare.specs.Meaning.Designs.{machineOf, sizesOf};
@@ -43,7 +43,7 @@ const STEPS: usize = 32768;
 // Puts what the program writes of its room into a text: what it prints of what was read, or the words that nothing could be read.
 pub fn answer(room: &[u8], input: Input, text: &mut [u8]) -> Output
     requires { ⌜ (length (now room) ≡ mostRead) × (Within input (now room)) × (400 + 12 * 32768 ≤ length (now text)) ⌝ }
-    ensures { λ r. ⌜ Sends unreadMessage Outputs input (now (room .entry)) (now (text .exit)) (r .stream) (r .length) ⌝ }
+    ensures { λ r. ⌜ Sends unreadMessage Outputs input (atEntry room) (atExit text) (r .stream) (r .length) ⌝ }
 {
     let Input::Read(n) = input else {
         return streams::put_unread(b"align: standard input cannot be read\n", text);
@@ -56,7 +56,7 @@ pub fn answer(room: &[u8], input: Input, text: &mut [u8]) -> Output
 // Writes what is printed of two images, with a list slice of any length, and hands back how many bytes it has.
 pub fn write_report(input: &[u8], panel: Panel, list: &mut [u8], text: &mut [u8]) -> usize
     requires { ⌜ 400 + 12 * length (now list) ≤ length (now text) ⌝ }
-    ensures { λ r. ⌜ Reports panel (now (input .entry)) ownTables (ownSlices (length (now (list .entry)))) (now (list .exit)) (now (text .exit)) r ⌝ }
+    ensures { λ r. ⌜ Reports panel (atEntry input) ownTables (ownSlices (lengthAtEntry list)) (atExit list) (atExit text) r ⌝ }
 {
     let mut old_next = [0u8; ENTRIES];
     let mut old_out = [0u8; ENTRIES];
@@ -101,7 +101,9 @@ fn write_images(
 ) -> usize
     requires { ⌜ 400 + 12 * length (now list) ≤ length (now text) ⌝ }
     requires { ⌜ Zero (now list) ⌝ }
-    ensures { λ r. ⌜ Reports panel (now (input .entry)) (tablesLentOf (lengthsOf (tableOf (now («old_next» .entry)) (now («old_out» .entry)) (now («old_seen» .entry)))) (lengthsOf (tableOf (now («new_next» .entry)) (now («new_out» .entry)) (now («new_seen» .entry))))) (lentOf (length (now (depth .entry))) (length (now (reach .entry))) (length (now (list .entry)))) (now (list .exit)) (now (text .exit)) r ⌝ }
+    ensures { λ r. ⌜ Reports panel (atEntry input)
+        (tablesLentOf (tableLengthsAtEntry «old_next» «old_out» «old_seen») (tableLengthsAtEntry «new_next» «new_out» «new_seen»))
+        (lengthsAtEntry depth reach list) (atExit list) (atExit text) r ⌝ }
 {
     let measured = image::length_of(input);
     let Length::Bytes(n) = measured else {
@@ -154,7 +156,9 @@ fn write_comparison(
     text: &mut [u8],
 ) -> usize
     requires { ⌜ 400 + 12 * length (now list) ≤ length (now text) ⌝ }
-    ensures { λ r. ⌜ ReportsDesigns old new allowed (tablesLentOf (lengthsOf (tableOf (now («old_next» .entry)) (now («old_out» .entry)) (now («old_seen» .entry)))) (lengthsOf (tableOf (now («new_next» .entry)) (now («new_out» .entry)) (now («new_seen» .entry))))) (lentOf (length (now (depth .entry))) (length (now (reach .entry))) (length (now (list .entry)))) (now (list .exit)) (now (text .exit)) r ⌝ }
+    ensures { λ r. ⌜ ReportsDesigns old new allowed
+        (tablesLentOf (tableLengthsAtEntry «old_next» «old_out» «old_seen») (tableLengthsAtEntry «new_next» «new_out» «new_seen»))
+        (lengthsAtEntry depth reach list) (atExit list) (atExit text) r ⌝ }
 {
     let nothing = [0u16; 0];
     let judged = compare::compare(
@@ -200,7 +204,8 @@ fn write_comparison(
 // What stands in front of the verdict on two designs.
 fn facts_of(old: Design, new: Design, allowed: u64, judged: Judged) -> Facts
     requires { ⌜ Accepted old × Accepted new ⌝ }
-    requires { ⌜ CountsPairs (machineOf old []) (machineOf new []) (Ok (sizesOf old new allowed)) (sizesOf old new allowed) (judged .alike) (judged .alignable) ⌝ }
+    requires { ⌜ CountsPairs (machineOf old []) (machineOf new []) (Ok (sizesOf old new allowed)) (sizesOf old new allowed)
+        (judged .alike) (judged .alignable) ⌝ }
     ensures { λ r. ⌜ FactsOf old new allowed r ⌝ }
 {
     let sizes = sizes_of(old, new, allowed);

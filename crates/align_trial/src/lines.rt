@@ -1,6 +1,7 @@
 // A line: where a byte stands in it, and what it says.
 ghost use Prim.Native.Nat.{_≤_};
 ghost use lib.ListN.{length};
+ghost use Rattle.memory.specs.Meaning.Slices.{lengthAtEntry, atExit};
 use panel::Panel;
 
 // The bytes of the number that names the allowed vectors.
@@ -9,7 +10,7 @@ const NUMBER: usize = 8;
 // Where the first such byte stands at or behind a place, or else the end.
 pub(crate) fn find(line: &[u8], from: usize, byte: u8) -> usize
     requires { ⌜ from ≤ length (now line) ⌝ }
-    ensures { λ r. ⌜ (from ≤ r) × (r ≤ length (now (line .entry))) ⌝ }
+    ensures { λ r. ⌜ (from ≤ r) × (r ≤ lengthAtEntry line) ⌝ }
 {
     let mut i = from;
     while i < line.len() {
@@ -78,7 +79,7 @@ fn behind(number: u64, byte: u8) -> u64 {
 
 // Writes the bytes that stand behind a colon or space each, as far as there is room, and hands back how many.
 pub(crate) fn decode(digits: &[u8], input: &mut [u8]) -> usize
-    ensures { λ r. ⌜ r ≤ length (now (input .exit)) ⌝ }
+    ensures { λ r. ⌜ r ≤ length (atExit input) ⌝ }
 {
     let mut n = 0;
     while n < input.len() && n < digits.len() / 3 {

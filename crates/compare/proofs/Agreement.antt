@@ -1,4 +1,4 @@
--- Tables that hold two designs are the designs' own machines, and nothing but short scratch or a short list turns them away.
+-- Tables that give two designs are the designs' own machines, and nothing but short scratch or a short list turns them away.
 use Prim.Native.Nat.{ℕ, _+_, _*_, _/_, _%_, _^_, _<_, _≤_}
 use mathlib.Core.Path.{_≡_, refl, sym, ap}
 use mathlib.Core.List.{List}
@@ -9,10 +9,11 @@ use Rattle.numbers.proofs.Order.{not-lt}
 use lib.ListN.{getD}
 use Rattle.memory.specs.Meaning.Tables.{Table, lengthsOf, shortestOf}
 use Rattle.netlist.specs.declared.Design.{Design}
-use Rattle.netlist.specs.Meaning.Nets.{statesOf, vectorsOf}
+use Rattle.netlist.specs.Meaning.Nets.{statesOf, vectorsOf, nextState, outputs}
+use Rattle.netlist.specs.Meaning.Watched.{watched}
 use Rattle.netlist.specs.Meaning.Faults.{Accepted}
 use Rattle.netlist.proofs.Numbers.{sound-of}
-use Rattle.simulator.specs.Meaning.Tables.{sizeOf, HoldsEach, HoldsDesign}
+use Rattle.simulator.specs.Meaning.Tables.{sizeOf, Gives, GivesDesign, HoldsDesign}
 use Rattle.evaluator.proofs.Bounds.{next-state-lt}
 use Rattle.machine.specs.declared.Sizes.{Sizes}
 use Rattle.machine.specs.Meaning.Tables.{Ok, Tables, tablesOf, entry, pairs, tableMachine, oldMachine, newMachine}
@@ -21,17 +22,20 @@ use Rattle.machine.specs.Working.Pairs.{SameMachine, SameSteps}
 use Rattle.machine.specs.Meaning.Faults.{OutOfRange, TooShort, LeadsOut, TablesFault}
 use Rattle.compare.specs.Meaning.Designs.{machineOf, sizesOf}
 
--- slices that hold a design, read as a table of as many vectors
-module _ (d : Design) (w : List ℕ) (z : Sizes) (t : Table) (e : vectorsOf d ≡ z .vectors) (h : HoldsDesign d w t) where
-  same-entry : {f : ℕ → ℕ → ℕ} {l : List ℕ} → HoldsEach d f l → (s v : ℕ) → s < statesOf d → v < z .vectors → entry z l s v ≡ f s v
-  same-entry g s v q o = rw (← e) (g .entry s v q (rw e o))
+pub holds-gives : {d : Design} {w : List ℕ} {t : Table} → HoldsDesign d w t → GivesDesign d w t
+holds-gives h = record { next = h .next .entry; out = h .out .entry; seen = h .seen .entry }
+
+-- slices that give a design, read as a table of as many vectors
+module _ (d : Design) (w : List ℕ) (z : Sizes) (t : Table) (e : vectorsOf d ≡ z .vectors) (h : GivesDesign d w t) where
+  same-entry : (f : ℕ → ℕ → ℕ) (l : List ℕ) → Gives d f l → (s v : ℕ) → s < statesOf d → v < z .vectors → entry z l s v ≡ f s v
+  same-entry f l g s v q o = rw (← e) (g s v q (rw e o))
 
   table-machine : SameMachine (Ok z) (statesOf d) (tableMachine z t) (machineOf d w)
   table-machine = record {
-    next = λ s v q o. same-entry (h .next) s v q (o .below);
-    out = λ s v q o. same-entry (h .out) s v q (o .below);
-    seen = λ s v q o. same-entry (h .seen) s v q (o .below);
-    stays = λ s v q o. rw (same-entry (h .next) s v q (o .below)) (next-state-lt d s v);
+    next = λ s v q o. same-entry (nextState d) (t .next) (h .next) s v q (o .below);
+    out = λ s v q o. same-entry (outputs d) (t .out) (h .out) s v q (o .below);
+    seen = λ s v q o. same-entry (watched d w) (t .seen) (h .seen) s v q (o .below);
+    stays = λ s v q o. rw (same-entry (nextState d) (t .next) (h .next) s v q (o .below)) (next-state-lt d s v);
   }
 
   -- every next state of the table is a state
@@ -41,7 +45,7 @@ module _ (d : Design) (w : List ℕ) (z : Sizes) (t : Table) (e : vectorsOf d �
       let a : i / z .vectors < statesOf d = div-lt-iff-lt-mul p .1 q in
       let b : i % z .vectors < z .vectors = mod-lt i p in
       let f : i / z .vectors * z .vectors + i % z .vectors ≡ i = div-add-mod' i (z .vectors) in
-      rw (← f) (rw (same-entry (h .next) (i / z .vectors) (i % z .vectors) a b) (next-state-lt d (i / z .vectors) (i % z .vectors)))
+      rw (← f) (rw (same-entry (nextState d) (t .next) (h .next) (i / z .vectors) (i % z .vectors) a b) (next-state-lt d (i / z .vectors) (i % z .vectors)))
 
 pub states-some : (d : Design) → 0 < statesOf d
 states-some d = pow-pos (d .latches)
@@ -55,7 +59,7 @@ states-few {d} a = pow-mono {i = d .latches} {j = 7} (sound-of a .few-latches)
 pub vectors-few : {d : Design} → Accepted d → vectorsOf d ≤ 64
 vectors-few {d} a = pow-mono {i = d .inputs} {j = 6} (sound-of a .few-inputs)
 
-module _ (a b : Design) (w0 w1 : List ℕ) (allowed : ℕ) (t0 t1 : Table) (same : a .inputs ≡ b .inputs) (h0 : HoldsDesign a w0 t0) (h1 : HoldsDesign b w1 t1) where
+module _ (a b : Design) (w0 w1 : List ℕ) (allowed : ℕ) (t0 t1 : Table) (same : a .inputs ≡ b .inputs) (h0 : GivesDesign a w0 t0) (h1 : GivesDesign b w1 t1) where
   abbrev Both : Tables
   Both = tablesOf (sizesOf a b allowed) t0 t1
 

@@ -1,7 +1,7 @@
 -- With all vectors allowed and nothing watched the comparison is promised over all vectors of the designs, and by the lowest of 3, 5, 9,
 -- 10, 12 and 16, as before requests §6 and §9, but that 12 counts third slices too. Alike is that of §9 here, of machines that show 0 beside
 -- their outputs; that it is document 01's there is `Finer`.
-use Prim.Native.Nat.{ℕ, _<_, _≤_, min}
+use Prim.Native.Nat.{ℕ, _<_, _≤_}
 use mathlib.Core.Path.{refl}
 use mathlib.Core.Logic.{_⊎_, inl}
 use mathlib.Core.List.{[]}
@@ -13,26 +13,24 @@ use Rattle.memory.proofs.Refusals.{lowest-before}
 use Rattle.memory.proofs.Table.{up-to-16}
 use Rattle.memory.specs.Meaning.Tables.{shortestOf}
 use Rattle.netlist.specs.declared.Design.{Design}
-use Rattle.netlist.specs.Meaning.Nets.{vectorsOf}
 use Rattle.simulator.specs.Meaning.Tables.{HoldsDesign, BothFault}
 use Rattle.simulator.proofs.Faults.{both-among}
 use Rattle.machine.specs.declared.Sizes.{Sizes}
-use Rattle.machine.specs.Meaning.Allowed.{everyVector}
 use Rattle.machine.specs.Meaning.Tables.{pairs, Ok}
-use Rattle.machine.specs.Meaning.Lent.{Lent, Left, Tidy}
+use Rattle.machine.specs.Meaning.Lent.{Lent, Left, Tidy, scratchOf}
 use Rattle.machine.specs.Working.Sets.{Below, Agree}
 use Rattle.machine.proofs.Allowed.{ones-allow-all, ones-right}
 use Rattle.machine.proofs.Sets.{all-agree, agree-back}
 use Rattle.verdict.specs.declared.Judged.{Judged}
 use Rattle.verdict.specs.Meaning.Decision.{Decision, verdictReply, Decided, CountsBeside, ShortList, short}
 use Rattle.verdict.proofs.Before.{decided-over, short-over, counts-over}
-use Rattle.compare.specs.Meaning.Designs.{machineOf, sizesOf}
+use Rattle.compare.specs.Meaning.Designs.{machineOf, sizesOf, allVectors}
 use Rattle.compare.specs.Meaning.Comparing.{TablesLent, TablesLeft, CompareFault, Compared, ClearedAll, TablesKept, Compares}
 use Rattle.compare.proofs.Agreement.{vectors-some}
 
 module _ (a b : Design) where
   abbrev every : ℕ
-  every = everyVector (vectorsOf a)
+  every = allVectors a
 
   abbrev z : Sizes
   z = sizesOf a b every
@@ -40,7 +38,7 @@ module _ (a b : Design) where
   -- the promise of before
   pub data CompareFaultBefore (n : TablesLent) (s : Lent) : ℕ → Type 0 where
     tabulating : {k : ℕ} → BothFault a b [] [] (shortestOf (n .old)) (shortestOf (n .new)) k → CompareFaultBefore n s k
-    scratch : min (s .depth) (s .reach) < pairs z → CompareFaultBefore n s 12
+    scratch : scratchOf s < pairs z → CompareFaultBefore n s 12
     list : {k : ℕ} → ShortList (machineOf a []) (machineOf b []) (Below z) z (s .written) k → CompareFaultBefore n s k
 
   pub record ComparedBefore (t : TablesLeft) (e : Left) (x : Decision) : Type 0 where

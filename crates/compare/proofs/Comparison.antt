@@ -1,5 +1,5 @@
 -- The promise of `compare`, from those of the tabulating call and of the verdict on its tables.
-use Prim.Native.Nat.{ℕ, _≤_, min}
+use Prim.Native.Nat.{ℕ, _≤_}
 use mathlib.Core.Path.{_≡_, _∙_, refl, sym, subst}
 use mathlib.Core.Logic.{_⊎_, inl, inr}
 use mathlib.Core.List.{List, [], _∷_}
@@ -29,7 +29,7 @@ use Rattle.machine.specs.Working.Pairs.{SameSteps}
 use Rattle.machine.proofs.Transfer.{same-back, same-there, is-apart-there, written-there, alike-there, alignable-there}
 use Rattle.machine.proofs.Counting as C
 use Rattle.machine.specs.Meaning.Faults.{TablesFault, TooShort, VectorsFault}
-use Rattle.machine.specs.Meaning.Lent.{Lent, Left, lentOf, leftOf}
+use Rattle.machine.specs.Meaning.Lent.{Lent, Left, lentOf, leftOf, scratchOf}
 use Rattle.verdict.specs.declared.Verdict.{Verdict}
 use Rattle.verdict.specs.declared.Judged.{Judged}
 use Rattle.verdict.specs.Meaning.Decision.{Decision, verdictReply, Decided, CountsBeside, ShortList, short}
@@ -39,7 +39,7 @@ use Rattle.verdict.proofs.Verdict as verdict
 use Rattle.compare.specs.Meaning.Designs.{machineOf, sizesOf}
 use Rattle.compare.specs.Meaning.Comparing.{TablesLent, tablesLentOf, TablesLeft, tablesLeftOf, CompareFault, Compared, ClearedAll, TablesKept, Compares}
 use Rattle.compare.specs.Working.Judging.{ClearedTable, KeptOrCleared, JudgedOrCleared}
-use Rattle.compare.proofs.Agreement.{tables-agree, tables-fault}
+use Rattle.compare.proofs.Agreement.{holds-gives, tables-agree, tables-fault}
 
 -- what is decided of one description of two designs is decided of the other
 pub decided-there : {z : Sizes} {m0 m1 n0 n1 : Machine} → SameSteps z m0 m1 n0 n1 → (l : List ℕ) (x : Decision) → Decided m0 m1 (Ok z) z l x → Decided n0 n1 (Ok z) z l x
@@ -86,7 +86,7 @@ module _ (a b : Design) (w0 w1 : List ℕ) (allowed : ℕ) (n : TablesLent) (s :
   same-inputs = stable (a .inputs) (b .inputs) (λ d. free 10 (BothFault.interface (InterfaceFault.other-inputs d)))
 
   agree : SameSteps (sizesOf a b allowed) (oldMachine Both) (newMachine Both) (machineOf a w0) (machineOf b w1)
-  agree = tables-agree a b w0 w1 allowed t0 t1 same-inputs h0 h1
+  agree = tables-agree a b w0 w1 allowed t0 t1 same-inputs (holds-gives h0) (holds-gives h1)
 
   long : (d : Design) (w : List ℕ) {m : Lengths} (t : Table) → lengthsOf t ≡ m → Free (TableFault d w (shortestOf m)) → sizeOf d ≤ shortestOf (lengthsOf t)
   long d w {m} t k none = subst (λ (l : Lengths). sizeOf d ≤ shortestOf l) (sym k) (table-long d w (shortestOf m) none)
@@ -94,7 +94,7 @@ module _ (a b : Design) (w0 w1 : List ℕ) (allowed : ℕ) (n : TablesLent) (s :
   fault-there : (k : ℕ) → JudgeFault Both s k → CompareFault a b w0 w1 allowed n s k
   fault-there k (JudgeFault.call (VectorsFault.allowed w)) = CompareFault.vectors w
   fault-there k (JudgeFault.call (VectorsFault.tables f)) =
-      let w = tables-fault a b w0 w1 allowed t0 t1 same-inputs h0 h1 (min (s .depth) (s .reach)) accepted-old accepted-new
+      let w = tables-fault a b w0 w1 allowed t0 t1 same-inputs (holds-gives h0) (holds-gives h1) (scratchOf s) accepted-old accepted-new
       (long a w0 t0 k0 (λ k f. free k (BothFault.old f))) (long b w1 t1 k1 (λ k f. free k (BothFault.new f))) k f in
       rw (w .0) (CompareFault.scratch (w .1))
   fault-there k (JudgeFault.list f) = CompareFault.list (short-there agree (s .written) k f)

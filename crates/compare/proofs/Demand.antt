@@ -1,6 +1,6 @@
--- Demand 3, from the promise of `compare`; from the verdict's own promise over tables that hold the two designs; and so from the
+-- Demand 3, from the promise of `compare`; from the verdict's own promise over tables that give the two designs; and so from the
 -- promises of the verdict and of the tabulating call, one call for both designs or one for each.
-use Prim.Native.Nat.{ℕ, min}
+use Prim.Native.Nat.{ℕ}
 use mathlib.Core.Path.{_≡_, refl, sym, subst}
 use mathlib.Core.List.{List}
 use native.Mathlib.Omega.{arith}
@@ -13,14 +13,14 @@ use Rattle.memory.proofs.Table.{first-numbered}
 use Rattle.netlist.specs.declared.Design.{Design}
 use Rattle.simulator.specs.declared.Tabulated.{Tabulated}
 use Rattle.simulator.specs.declared.TabulatedBoth.{TabulatedBoth}
-use Rattle.simulator.specs.Meaning.Tables.{HoldsDesign, TableFault, InterfaceFault, BothFault, Tabulates, TabulatesBoth}
+use Rattle.simulator.specs.Meaning.Tables.{GivesDesign, TableFault, InterfaceFault, BothFault, Tabulates, TabulatesBoth}
 use Rattle.machine.specs.declared.Pair.{Pair}
 use Rattle.machine.specs.Meaning.Tables.{Tables, tablesOf, In, Ok, oldMachine, newMachine}
 use Rattle.machine.specs.Meaning.Faults.{VectorsFault}
 use Rattle.machine.specs.Working.Pairs.{SameSteps}
 use Rattle.machine.proofs.Transfer.{written-there}
 use Rattle.machine.proofs.Verdict.{same-drives-all}
-use Rattle.machine.specs.Meaning.Lent.{Lent, Left}
+use Rattle.machine.specs.Meaning.Lent.{Lent, Left, scratchOf}
 use Rattle.verdict.specs.declared.Verdict.{Verdict}
 use Rattle.verdict.specs.declared.Judged.{Judged}
 use Rattle.verdict.specs.Meaning.Decision.{Decision, verdictReply, Decided, short}
@@ -30,12 +30,12 @@ use Rattle.compare.specs.Meaning.Designs.{machineOf, sizesOf}
 use Rattle.compare.specs.Meaning.Comparing.{TablesLent, tablesLentOf, TablesLeft, CompareFault, Compared, ClearedAll, Compares}
 use Rattle.compare.specs.Meaning.Demand.{Driven, Right, Supposed, Demand3}
 use Rattle.compare.specs.Meaning.Demand as R
-use Rattle.compare.proofs.Agreement.{tables-agree, tables-fault}
+use Rattle.compare.proofs.Agreement.{holds-gives, tables-agree, tables-fault}
 use Rattle.compare.proofs.Comparison.{decided-there}
 
 -- what is decided over the designs' own steps is right
 same-right : (a b : Design) (w0 w1 : List ℕ) (allowed : ℕ) (l : List ℕ) (n : ℕ) → Decided (machineOf a w0) (machineOf b w1) (Ok (sizesOf a b allowed)) (sizesOf a b allowed) l (D.same n) → Right a b w0 w1 allowed l (Verdict.Same n)
-same-right a b w0 w1 allowed l n w = R.same n (w .fits) (λ p i. same-drives-all (machineOf a w0) (machineOf b w1) (Ok (sizesOf a b allowed)) (sizesOf a b allowed) _ (w .sought) p i)
+same-right a b w0 w1 allowed l n w = R.same n (w .fits) (same-drives-all (machineOf a w0) (machineOf b w1) (Ok (sizesOf a b allowed)) (sizesOf a b allowed) _ (w .sought))
 
 apart-right : (a b : Design) (w0 w1 : List ℕ) (allowed : ℕ) (l : List ℕ) (p : Pair) (n : ℕ) → Decided (machineOf a w0) (machineOf b w1) (Ok (sizesOf a b allowed)) (sizesOf a b allowed) l (D.apart p n) → Right a b w0 w1 allowed l (Verdict.Apart p n)
 apart-right a b w0 w1 allowed l p n w =
@@ -94,12 +94,12 @@ pub demand-3 : (a b : Design) (w0 w1 : List ℕ) (allowed : ℕ) (n : TablesLent
 demand-3 a b w0 w1 allowed n s t e r h u =
     kept-right a b w0 w1 allowed (e .written) (Compared a b w0 w1 allowed t e) (ClearedAll t e) (no-fault a b w0 w1 allowed n s u) (λ d w. w .decided) (r .verdict) (h .keeps)
 
--- demand 3 of `judge`, over tables of the two designs, however they were written
+-- demand 3 of `judge`, over tables that give the two designs, however they were written and whatever stands beyond
 module _ (a b : Design) (w0 w1 : List ℕ) (allowed : ℕ) (t0 t1 : Table) where
   abbrev Both : Tables
   Both = tablesOf (sizesOf a b allowed) t0 t1
 
-  pub demand-3-tables : (s : Lent) (e : Left) (r : Judged) → HoldsDesign a w0 t0 → HoldsDesign b w1 t1 → Judges Both s e r → Demand3 a b w0 w1 allowed (tablesLentOf (lengthsOf t0) (lengthsOf t1)) s e (r .verdict)
+  pub demand-3-tables : (s : Lent) (e : Left) (r : Judged) → GivesDesign a w0 t0 → GivesDesign b w1 t1 → Judges Both s e r → Demand3 a b w0 w1 allowed (tablesLentOf (lengthsOf t0) (lengthsOf t1)) s e (r .verdict)
   demand-3-tables s e r h0 h1 j u = kept-right a b w0 w1 allowed (e .written) (Decided (oldMachine Both) (newMachine Both) (Ok (sizesOf a b allowed)) (sizesOf a b allowed) (e .written)) (Zero (e .written)) none (decided-there agree (e .written)) (r .verdict) (j .keeps)
     where
       agree : SameSteps (sizesOf a b allowed) (oldMachine Both) (newMachine Both) (machineOf a w0) (machineOf b w1)
@@ -108,7 +108,7 @@ module _ (a b : Design) (w0 w1 : List ℕ) (allowed : ℕ) (t0 t1 : Table) where
       none : (m : ℕ) → JudgeFault Both s m → ⊥
       none m (JudgeFault.call (VectorsFault.allowed o)) = u .vectors o
       none m (JudgeFault.call (VectorsFault.tables f)) =
-          let w = tables-fault a b w0 w1 allowed t0 t1 (u .compatible .inputs) h0 h1 (min (s .depth) (s .reach)) (u .old) (u .new) (u .tables .old) (u .tables .new) m f in
+          let w = tables-fault a b w0 w1 allowed t0 t1 (u .compatible .inputs) h0 h1 (scratchOf s) (u .old) (u .new) (u .tables .old) (u .tables .new) m f in
           omega (arith, w .1, u .room .scratch)
       none m (JudgeFault.list (short l w h)) = omega (arith, h, u .room .list l (written-there agree l w))
 
@@ -123,14 +123,14 @@ supposed-kept {a} {b} {w0} {w1} {allowed} {s = s} t0 t1 p q u = subst (λ (n : T
 pub demand-3-both : (a b : Design) (w0 w1 : List ℕ) (allowed : ℕ) (n0 n1 : Lengths) (t : TabulatedBoth) (t0 t1 : Table) (s : Lent) (e : Left) (r : Judged)
     → TabulatesBoth a b w0 w1 n0 n1 t t0 t1 → Judges (tablesOf (sizesOf a b allowed) t0 t1) s e r → Demand3 a b w0 w1 allowed (tablesLentOf n0 n1) s e (r .verdict)
 demand-3-both a b w0 w1 allowed n0 n1 (TabulatedBoth.Both s0 s1 i) t0 t1 s e r w j u =
-    demand-3-tables a b w0 w1 allowed t0 t1 s e r (w .keeps .1 .old) (w .keeps .1 .new) j (supposed-kept t0 t1 (w .old-room) (w .new-room) u)
+    demand-3-tables a b w0 w1 allowed t0 t1 s e r (holds-gives (w .keeps .1 .old)) (holds-gives (w .keeps .1 .new)) j (supposed-kept t0 t1 (w .old-room) (w .new-room) u)
 demand-3-both a b w0 w1 allowed n0 n1 (TabulatedBoth.Refused m) t0 t1 s e r w j u =
     absurd (no-fault a b w0 w1 allowed (tablesLentOf n0 n1) s u m (CompareFault.tabulating (w .keeps .0 .applies)))
 
 pub demand-3-each : (a b : Design) (w0 w1 : List ℕ) (allowed : ℕ) (n0 n1 : Lengths) (p q : Tabulated) (t0 t1 : Table) (s : Lent) (e : Left) (r : Judged)
     → Tabulates a w0 n0 p t0 → Tabulates b w1 n1 q t1 → Judges (tablesOf (sizesOf a b allowed) t0 t1) s e r → Demand3 a b w0 w1 allowed (tablesLentOf n0 n1) s e (r .verdict)
 demand-3-each a b w0 w1 allowed n0 n1 (Tabulated.Table s0 i) (Tabulated.Table s1 i′) t0 t1 s e r p q j u =
-    demand-3-tables a b w0 w1 allowed t0 t1 s e r (p .keeps .1 .holds) (q .keeps .1 .holds) j (supposed-kept t0 t1 (p .room) (q .room) u)
+    demand-3-tables a b w0 w1 allowed t0 t1 s e r (holds-gives (p .keeps .1 .holds)) (holds-gives (q .keeps .1 .holds)) j (supposed-kept t0 t1 (p .room) (q .room) u)
 demand-3-each a b w0 w1 allowed n0 n1 (Tabulated.Refused m) q t0 t1 s e r p w j u =
     absurd (no-fault a b w0 w1 allowed (tablesLentOf n0 n1) s u m (CompareFault.tabulating (BothFault.old (p .keeps .0 .applies))))
 demand-3-each a b w0 w1 allowed n0 n1 (Tabulated.Table s0 i) (Tabulated.Refused m) t0 t1 s e r p q j u =
@@ -138,7 +138,7 @@ demand-3-each a b w0 w1 allowed n0 n1 (Tabulated.Table s0 i) (Tabulated.Refused 
 
 -- Apart exactly when some pair of power-up states is driven to an alike pair by no list
 pub undriven-apart : (a b : Design) (w0 w1 : List ℕ) (allowed : ℕ) (l : List ℕ) (r : Verdict) → Right a b w0 w1 allowed l r → (p : Pair) → In (sizesOf a b allowed) p → (Driven a b w0 w1 allowed p → ⊥) → (q : Pair) × (n : ℕ) × (r ≡ Verdict.Apart q n)
-undriven-apart a b w0 w1 allowed l _ (R.same n h all) p i d = absurd (d (record { list = _; drives = all p i }))
+undriven-apart a b w0 w1 allowed l _ (R.same n h all) p i d = absurd (d (record { list = _; drives = all .drives p i }))
 undriven-apart a b w0 w1 allowed l _ (R.apart q n i g lower) p j d = (q, n, refl)
 
 pub apart-undriven : (a b : Design) (w0 w1 : List ℕ) (allowed : ℕ) (l : List ℕ) (p : Pair) (n : ℕ) → Right a b w0 w1 allowed l (Verdict.Apart p n) → In (sizesOf a b allowed) p × (Driven a b w0 w1 allowed p → ⊥)

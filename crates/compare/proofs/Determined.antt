@@ -1,5 +1,5 @@
 -- No two answers, or slices left, meet one promise of `compare`; and entries beyond the sizes of its designs count for nothing.
-use Prim.Native.Nat.{ℕ, _<_, min}
+use Prim.Native.Nat.{ℕ, _<_}
 use mathlib.Core.Path.{_≡_, sym, _∙_, subst}
 use mathlib.Core.List.{List}
 use lib.ListN.{length}
@@ -16,7 +16,7 @@ use Rattle.machine.specs.declared.Sizes.{Sizes}
 use Rattle.machine.specs.Meaning.Machine.{Machine}
 use Rattle.machine.specs.Meaning.Allowed.{WrongAllowed}
 use Rattle.machine.specs.Meaning.Tables.{pairs, Ok}
-use Rattle.machine.specs.Meaning.Lent.{Lent, Left, Tidy}
+use Rattle.machine.specs.Meaning.Lent.{Lent, Left, Tidy, scratchOf}
 use Rattle.machine.specs.Working.Pairs.{Closed}
 use Rattle.machine.proofs.Lent.{same-left}
 use Rattle.verdict.specs.declared.Judged.{Judged}
@@ -76,7 +76,7 @@ module _ (a b c d : Design) (w0 w1 : List ℕ) (allowed : ℕ) (p : SameDesign a
 
   compare-fault : (n : TablesLent) (s : Lent) (k : ℕ) → CompareFault a b w0 w1 allowed n s k → CompareFault c d w0 w1 allowed n s k
   compare-fault n s k (CompareFault.tabulating f) = CompareFault.tabulating (both-fault a b c d p q w0 w1 _ _ k f)
-  compare-fault n s k (CompareFault.scratch h) = CompareFault.scratch (there (λ m0 m1 z. min (s .depth) (s .reach) < pairs z) h)
+  compare-fault n s k (CompareFault.scratch h) = CompareFault.scratch (there (λ m0 m1 z. scratchOf s < pairs z) h)
   compare-fault n s k (CompareFault.vectors o) = CompareFault.vectors (there (λ m0 m1 z. WrongAllowed z) o)
   compare-fault n s k (CompareFault.list f) = CompareFault.list (there (λ m0 m1 z. ShortList m0 m1 (Ok z) z (s .written) k) f)
 

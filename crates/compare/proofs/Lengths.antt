@@ -2,7 +2,7 @@
 -- list slice is never too short.
 use mathlib.Core.Path.{_≡_, refl}
 use mathlib.Core.List.{List}
-use Prim.Native.Nat.{ℕ, _<_, _≤_, min}
+use Prim.Native.Nat.{ℕ, _<_, _≤_}
 use native.Mathlib.Omega.{arith}
 use lib.ListN.{length}
 use Rattle.memory.specs.Meaning.Refusals.{First}
@@ -16,7 +16,7 @@ use Rattle.machine.specs.declared.Pair.{Pair}
 use Rattle.machine.specs.declared.Sizes.{Sizes}
 use Rattle.machine.specs.Meaning.Machine.{Machine, Alignable}
 use Rattle.machine.specs.Meaning.Tables.{pairs, In, Ok}
-use Rattle.machine.specs.Meaning.Lent.{Lent, Left}
+use Rattle.machine.specs.Meaning.Lent.{Lent, Left, scratchOf}
 use Rattle.machine.specs.Meaning.Verdict.{IsSame}
 use Rattle.machine.specs.Meaning.Bounds.{mostTrace, mostList, traceRoom, verdictRoom, StaysIn, Bounded}
 use Rattle.machine.proofs.Bounds.{bounded, trace-room, verdict-room}
@@ -49,7 +49,7 @@ module _ (a b : Design) (w0 w1 : List ℕ) (allowed : ℕ) where
   designs-bounded Ok = bounded m0 m1 Ok z (designs-stay Ok)
 
   -- what demand 3 supposes of scratch and list slice, by numbers alone
-  pub enough-always : (s : Lent) → pairs z ≤ min (s .depth) (s .reach) → mostTrace z ≤ s .written → mostList z ≤ s .written → Enough a b w0 w1 allowed s
+  pub enough-always : (s : Lent) → pairs z ≤ scratchOf s → mostTrace z ≤ s .written → mostList z ≤ s .written → Enough a b w0 w1 allowed s
   enough-always s room trace steps = record { scratch = room; list = all-fit (designs-bounded (Ok z)) trace steps }
 
   -- 16 comes of accepted designs, and of a list that the slice cannot hold

@@ -5,3 +5,4 @@ pub mod Determined
 pub mod Before
 pub mod Lengths
 pub mod Watched
+pub mod Maps

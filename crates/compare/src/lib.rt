@@ -1,10 +1,9 @@
 // Two designs to a verdict: their tables are written, and judged. A refusal that comes only then clears the tables again.
-ghost use lib.ListN.{length};
 ghost use mathlib.Core.Path.{_≡_};
-ghost use Rattle.memory.specs.Meaning.Slices.{Cleared};
-ghost use Rattle.memory.specs.Meaning.Tables.{tableOf, lengthsOf};
-ghost use Rattle.machine.specs.Meaning.Tables.{bothTables};
-ghost use Rattle.machine.specs.Meaning.Lent.{lentOf, leftOf};
+ghost use Rattle.memory.specs.Meaning.Slices.{atEntry, lengthAtEntry, atExit, Cleared};
+ghost use Rattle.memory.specs.Meaning.Tables.{tableAtExit, tableLengthsAtEntry};
+ghost use Rattle.machine.specs.Meaning.Tables.{tablesAtEntry};
+ghost use Rattle.machine.specs.Meaning.Lent.{lengthsAtEntry, leftAtExit};
 ghost use Rattle.compare.specs.Meaning.Comparing.{tablesLentOf, tablesLeftOf, Compares};
 ghost use Rattle.compare.specs.Working.Judging.{JudgedOrCleared};
 use machine::Sizes;
@@ -31,7 +30,11 @@ pub fn compare(
     reach: &mut [u16],
     list: &mut [u8],
 ) -> Judged
-    ensures { λ r. ⌜ Compares old new (now («old_watch» .entry)) (now («new_watch» .entry)) allowed (tablesLentOf (lengthsOf (tableOf (now («old_next» .entry)) (now («old_out» .entry)) (now («old_seen» .entry)))) (lengthsOf (tableOf (now («new_next» .entry)) (now («new_out» .entry)) (now («new_seen» .entry))))) (lentOf (length (now (depth .entry))) (length (now (reach .entry))) (length (now (list .entry)))) (tablesLeftOf (tableOf (now («old_next» .exit)) (now («old_out» .exit)) (now («old_seen» .exit))) (tableOf (now («new_next» .exit)) (now («new_out» .exit)) (now («new_seen» .exit)))) (leftOf (now (depth .exit)) (now (reach .exit)) (now (list .exit))) r ⌝ }
+    ensures { λ r. ⌜ Compares old new (atEntry «old_watch») (atEntry «new_watch») allowed
+        (tablesLentOf (tableLengthsAtEntry «old_next» «old_out» «old_seen») (tableLengthsAtEntry «new_next» «new_out» «new_seen»))
+        (lengthsAtEntry depth reach list)
+        (tablesLeftOf (tableAtExit «old_next» «old_out» «old_seen») (tableAtExit «new_next» «new_out» «new_seen»))
+        (leftAtExit depth reach list) r ⌝ }
 {
     let tabulated = simulator::tabulate_both(
         old,
@@ -77,9 +80,9 @@ pub fn compare(
 // The answer beside a refusal of the tabulating call; the slices that it does not write are cleared.
 fn refuse(number: u8, depth: &mut [u8], reach: &mut [u16], list: &mut [u8]) -> Judged
     ensures { λ r. ⌜ r ≡ record { verdict = Verdict.Refused number; alike = 0; alignable = 0 } ⌝ }
-    ensures { λ _. ⌜ Cleared (length (now (depth .entry))) (now (depth .exit)) ⌝ }
-    ensures { λ _. ⌜ Cleared (length (now (reach .entry))) (now (reach .exit)) ⌝ }
-    ensures { λ _. ⌜ Cleared (length (now (list .entry))) (now (list .exit)) ⌝ }
+    ensures { λ _. ⌜ Cleared (lengthAtEntry depth) (atExit depth) ⌝ }
+    ensures { λ _. ⌜ Cleared (lengthAtEntry reach) (atExit reach) ⌝ }
+    ensures { λ _. ⌜ Cleared (lengthAtEntry list) (atExit list) ⌝ }
 {
     memory::clear_scratch(depth, reach);
     memory::clear_bytes(list);
@@ -103,7 +106,10 @@ fn judge_or_clear(
     reach: &mut [u16],
     list: &mut [u8],
 ) -> Judged
-    ensures { λ r. ⌜ JudgedOrCleared (bothTables sizes (now («old_next» .entry)) (now («old_out» .entry)) (now («old_seen» .entry)) (now («new_next» .entry)) (now («new_out» .entry)) (now («new_seen» .entry))) (lentOf (length (now (depth .entry))) (length (now (reach .entry))) (length (now (list .entry)))) (tablesLeftOf (tableOf (now («old_next» .exit)) (now («old_out» .exit)) (now («old_seen» .exit))) (tableOf (now («new_next» .exit)) (now («new_out» .exit)) (now («new_seen» .exit)))) (leftOf (now (depth .exit)) (now (reach .exit)) (now (list .exit))) r ⌝ }
+    ensures { λ r. ⌜ JudgedOrCleared (tablesAtEntry sizes «old_next» «old_out» «old_seen» «new_next» «new_out» «new_seen»)
+        (lengthsAtEntry depth reach list)
+        (tablesLeftOf (tableAtExit «old_next» «old_out» «old_seen») (tableAtExit «new_next» «new_out» «new_seen»))
+        (leftAtExit depth reach list) r ⌝ }
 {
     let judged = verdict::judge(
         old_next,

@@ -14,18 +14,20 @@ use Rattle.pieces.specs.Meaning.Pieces.{lastField}
 use Rattle.streams.specs.declared.Input.{Input}
 use Rattle.streams.specs.Meaning.Output.{Sends}
 use Rattle.streams.proofs.Sending.{one-answer}
-use Rattle.converter.specs.Meaning.Output.{unreadMessage, Outputs, Converts}
+use Rattle.converter.specs.Meaning.Output.{unreadMessage, AnswersText, Outputs, Converts}
+
+-- however long the text is
+pub one-text-answer : (t a b : List ℕ) → AreBytes a → AreBytes b → AnswersText t a → AnswersText t b → a ≡ b
+one-text-answer t a b x y (AnswersText.image p e) (AnswersText.image q f) = one-image (drawn (drawingIn t)) a b e f x y
+one-text-answer t a b x y (AnswersText.image p e) (AnswersText.refused n q f) = absurd (never-free q p)
+one-text-answer t a b x y (AnswersText.refused m p e) (AnswersText.image q f) = absurd (never-free p q)
+one-text-answer t a b x y (AnswersText.refused m p e) (AnswersText.refused n q f) = e ∙ ap (lastField "REFUSED ") (number-unique p q) ∙ sym f
 
 pub one-output : (t a b : List ℕ) (k l : ℕ) → AreBytes a → AreBytes b → Outputs t a k → Outputs t b l → (k ≡ l) × (a ≡ b)
-one-output t a b k l x y (Outputs.long h e) (Outputs.long i f) = (refl, e ∙ sym f)
-one-output t a b k l x y (Outputs.long h e) (Outputs.image i f g) = absurd (omega arith)
-one-output t a b k l x y (Outputs.long h e) (Outputs.refused i n f g) = absurd (omega arith)
-one-output t a b k l x y (Outputs.image h p e) (Outputs.long i f) = absurd (omega arith)
-one-output t a b k l x y (Outputs.image h p e) (Outputs.image i q f) = (refl, one-image (drawn (drawingIn t)) a b e f x y)
-one-output t a b k l x y (Outputs.image h p e) (Outputs.refused i n f g) = absurd (never-free f p)
-one-output t a b k l x y (Outputs.refused h m p e) (Outputs.long i f) = absurd (omega arith)
-one-output t a b k l x y (Outputs.refused h m p e) (Outputs.image i q f) = absurd (never-free p q)
-one-output t a b k l x y (Outputs.refused h m p e) (Outputs.refused i n q f) = (refl, e ∙ ap (lastField "REFUSED ") (number-unique p q) ∙ sym f)
+one-output t a b k l x y (Outputs.answered d p) (Outputs.answered e q) = (refl, one-text-answer t a b x y p q)
+one-output t a b k l x y (Outputs.answered d p) (Outputs.undecided u q) = absurd (d u)
+one-output t a b k l x y (Outputs.undecided u p) (Outputs.answered e q) = absurd (e u)
+one-output t a b k l x y (Outputs.undecided u p) (Outputs.undecided w q) = (refl, p ∙ sym q)
 
 pub one-conversion : (t a b : List ℕ) (k l r s : ℕ) → AreBytes a → AreBytes b → Converts t a k r → Converts t b l s → (k ≡ l) × (r ≡ s) × (take r a ≡ take s b)
 one-conversion t a b k l r s x y p q =

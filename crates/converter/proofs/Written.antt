@@ -28,7 +28,7 @@ pub drawing-written : (t : List ℕ) (d : Design) → ReadsDrawing t (record { a
     → (n : ℕ) (w : Written) (l : List ℕ) → Writes d n w l → bytesOf d ≤ n
     → (w ≡ Bytes (bytesOf d)) × ((r : Reading) → ReadsImage (take (bytesOf d) l) r → (r .answer ≡ Answer·variants.Accepted) × SameDesign d (r .design))
 drawing-written t d p n w l h room =
-    let e = writes d (read-accepted p refl) n w l h room in
+    let e = writes d (read-accepted p refl refl) n w l h room in
     (e, λ r q. write-read d n (bytesOf d) l (subst (λ (x : Written). Writes d n x l) e h) r q)
 
 -- the bytes that stand for a drawing are an image to which no number applies, of the design that the drawing draws

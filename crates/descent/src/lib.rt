@@ -1,5 +1,6 @@
 // The list of a pair, down a map that is right: each step is chosen by the one before.
 ghost use Prim.Native.Nat.{_<_};
+ghost use Rattle.memory.specs.Meaning.Slices.{atEntry, atExit};
 ghost use Rattle.machine.specs.Meaning.Tables.{In};
 ghost use Rattle.memory.specs.Working.Tests.{Tells};
 ghost use Rattle.places.specs.Working.{LowestBelow, ChosenBelow, Walk, Ready};
@@ -22,7 +23,7 @@ pub fn descend(
     requires { ⌜ Walk sizes (now «old_next») (now «new_next») (now map) ⌝ }
     requires { ⌜ Ready sizes (now «old_next») (now «new_next») (now map) ⌝ }
     requires { ⌜ Descent sizes (now map) p (now list) ⌝ }
-    ensures { λ r. ⌜ Descended sizes (now («old_next» .entry)) (now («new_next» .entry)) (now (map .entry)) p prior (now (list .entry)) (now (list .exit)) r ⌝ }
+    ensures { λ r. ⌜ Descended sizes (atEntry «old_next») (atEntry «new_next») (atEntry map) p prior (atEntry list) (atExit list) r ⌝ }
     ensures { λ r. ⌜ In sizes r ⌝ }
 {
     let mut q = p;
@@ -54,7 +55,7 @@ fn chosen(
 ) -> usize
     requires { ⌜ Walk sizes (now «old_next») (now «new_next») (now map) ⌝ }
     requires { ⌜ In sizes p ⌝ }
-    ensures { λ r. ⌜ ChosenBelow prior (To sizes (now («old_next» .entry)) (now («new_next» .entry)) (now (map .entry)) k p) (sizes .vectors) r ⌝ }
+    ensures { λ r. ⌜ ChosenBelow prior (To sizes (atEntry «old_next») (atEntry «new_next») (atEntry map) k p) (sizes .vectors) r ⌝ }
 {
     if let Prior::Vector(u) = prior {
         if u < sizes.vectors {
@@ -79,7 +80,7 @@ fn lands(
     requires { ⌜ Walk sizes (now «old_next») (now «new_next») (now map) ⌝ }
     requires { ⌜ In sizes p ⌝ }
     requires { ⌜ v < sizes .vectors ⌝ }
-    ensures { λ r. ⌜ Tells r (To sizes (now («old_next» .entry)) (now («new_next» .entry)) (now (map .entry)) k p v) ⌝ }
+    ensures { λ r. ⌜ Tells r (To sizes (atEntry «old_next») (atEntry «new_next») (atEntry map) k p v) ⌝ }
 {
     if !places::allows(sizes, v) {
         return false;
@@ -92,7 +93,7 @@ fn lands(
 fn lowest(old_next: &[u8], new_next: &[u8], sizes: Sizes, map: &[u16], k: usize, p: Pair) -> usize
     requires { ⌜ Walk sizes (now «old_next») (now «new_next») (now map) ⌝ }
     requires { ⌜ In sizes p ⌝ }
-    ensures { λ r. ⌜ LowestBelow (To sizes (now («old_next» .entry)) (now («new_next» .entry)) (now (map .entry)) k p) (sizes .vectors) r ⌝ }
+    ensures { λ r. ⌜ LowestBelow (To sizes (atEntry «old_next») (atEntry «new_next») (atEntry map) k p) (sizes .vectors) r ⌝ }
 {
     let mut v = 0;
     while v < sizes.vectors {

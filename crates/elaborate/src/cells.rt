@@ -2,7 +2,7 @@
 ghost use mathlib.Core.Path.{_≡_};
 ghost use Prim.Native.Nat.{_+_, _<_, _≤_};
 ghost use lib.ListN.{length};
-ghost use Rattle.memory.specs.Meaning.Slices.{Zero};
+ghost use Rattle.memory.specs.Meaning.Slices.{lengthAtEntry, atExit, Zero};
 ghost use Rattle.memory.specs.Working.Filling.{Filled};
 ghost use Rattle.limits.specs.Meaning.Limits.{mostCells};
 ghost use Rattle.netlist.specs.Meaning.Gates.{blankCell};
@@ -57,7 +57,7 @@ fn net_read(d: Drawing, w: Wires, r: usize) -> u16
 // Puts the nets of n read literals, from literal r on, into a list of zeros.
 pub(crate) fn take_nets(d: Drawing, w: Wires, r: usize, n: usize, nets: &mut [u16])
     requires { ⌜ (Spelled d) × (Wired d (w .nets) (w .nots) (w .count)) × (r + n ≤ reads d) × (n ≤ length (now nets)) × (Zero (now nets)) ⌝ }
-    ensures { λ _. ⌜ Filled (λ k. netOf d (readAt d (r + k))) 0 (length (now (nets .entry))) n (now (nets .exit)) ⌝ }
+    ensures { λ _. ⌜ Filled (λ k. netOf d (readAt d (r + k))) 0 (lengthAtEntry nets) n (atExit nets) ⌝ }
 {
     let mut k = 0;
     while k < n {

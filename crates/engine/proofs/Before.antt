@@ -1,6 +1,6 @@
 -- With all V vectors allowed the maps, traces and lists are promised as they were before request §6: over all vectors below V, and by the
 -- lowest of 11 to 16.
-use Prim.Native.Nat.{ℕ, _<_, _≤_, min}
+use Prim.Native.Nat.{ℕ, _<_, _≤_}
 use mathlib.Core.Path.{_≡_}
 use mathlib.Core.Logic.{_⊎_, inl, inr, ⊎-elim}
 use mathlib.Core.List.{List}
@@ -17,17 +17,19 @@ use Rattle.machine.specs.declared.Pair.{Pair}
 use Rattle.machine.specs.Meaning.Allowed.{everyVector}
 use Rattle.machine.specs.Meaning.Machine.{Alike, Alignable, IsTrace, IsList}
 use Rattle.machine.specs.Meaning.Rounds.{A, FirstUnchanged}
-use Rattle.machine.specs.Meaning.Tables.{Tables, In, Ok, Flag, holds, fails, oldMachine, newMachine, AlignableIn}
+use Rattle.machine.specs.Meaning.Tables.{Tables, In, Ok, oldMachine, newMachine, AlignableIn}
 use Rattle.machine.specs.Meaning.Faults.{TablesFault, VectorsFault, StateFault}
-use Rattle.machine.specs.Meaning.Lent.{Lent, Left, Tidy, Listed}
+use Rattle.machine.specs.Meaning.Lent.{Lent, Left, scratchOf, roomOf, Tidy, Listed}
 use Rattle.machine.specs.Working.Sets.{Below, Agree}
 use Rattle.machine.proofs.Allowed.{ones-allow-all}
+use Rattle.machine.proofs.Lent.{listed-there}
 use Rattle.machine.proofs.Sets.{all-agree, agree-back, alike-over, alignable-over, trace-over, list-over, round-over}
 use Rattle.table_faults.proofs.Refusals.{tables-among, tables-numbered, before-20}
 use Rattle.engine.specs.declared.MappedAlike.{MappedAlike}
 use Rattle.engine.specs.declared.MappedAlignable.{MappedAlignable}
-use Rattle.engine.specs.Meaning.Maps.{AlikeCount, alikeReply, alignableReply, roomOf, Marks, MarksAlike, MapsAlike, MapsAlignable}
+use Rattle.engine.specs.Meaning.Maps.{AlikeCount, alikeReply, alignableReply, Marks, MarksAlike, MapsAlike, MapsAlignable}
 use Rattle.engine.specs.Meaning.Pairs.{foundReply, PairFault, Finds, FindsTrace, FindsList}
+use Rattle.engine.proofs.Marks.{marks-there}
 
 -- the promises of before
 module _ (t : Tables) where
@@ -51,7 +53,7 @@ module _ (t : Tables) where
 
   -- 11 to 16
   pub data PairFaultBefore (s : Lent) (p : Pair) (None : Type 0) (Sought : List ℕ → Type 0) : ℕ → Type 0 where
-    call : {n : ℕ} → TablesFault t (min (s .depth) (s .reach)) n → PairFaultBefore s p None Sought n
+    call : {n : ℕ} → TablesFault t (scratchOf s) n → PairFaultBefore s p None Sought n
     old-state : t .sizes .old ≤ p .old → PairFaultBefore s p None Sought 14
     new-state : t .sizes .new ≤ p .new → PairFaultBefore s p None Sought 14
     none : None → PairFaultBefore s p None Sought 15
@@ -67,10 +69,6 @@ module _ (t : Tables) where
   abbrev FindsListBefore : Lent → Pair → Left → Found → Type 0
   FindsListBefore s p e r = FindsBefore s p (AlignableBefore p → ⊥) (IsList (oldMachine t) (newMachine t) (Below (t .sizes)) p) e r
 
-flag-over : {P Q : Type 0} {x : ℕ} → (P → Q) → (Q → P) → Flag P x → Flag Q x
-flag-over to from (holds e p) = holds e (to p)
-flag-over to from (fails e n) = fails e (λ q. n (from q))
-
 module _ (t : Tables) (all : t .sizes .allowed ≡ everyVector (t .sizes .vectors)) where
   same : Agree (Ok (t .sizes)) (Below (t .sizes))
   same = all-agree (ones-allow-all all)
@@ -78,20 +76,17 @@ module _ (t : Tables) (all : t .sizes .allowed ≡ everyVector (t .sizes .vector
   back : Agree (Below (t .sizes)) (Ok (t .sizes))
   back = agree-back same
 
-  marks-over : {P Q : Pair → Type 0} {mark : List ℕ} {n : ℕ} → ((p : Pair) → P p → Q p) → ((p : Pair) → Q p → P p) → Marks P (t .sizes) mark n → Marks Q (t .sizes) mark n
-  marks-over to from w = record { each = λ p i. flag-over (to p) (from p) (w .each p i); beyond = w .beyond; counts = w .counts }
-
   pub maps-alike-before : (s : Lent) (e : Left) (r : MappedAlike) → MapsAlike t s e r → MapsAlikeBefore t s e r
   maps-alike-before s e r w = record {
     keeps = lowest-before tables-numbered (λ m f. VectorsFault.tables f) (before-20 all) (MarksAlike t (e .written)) (MarksBefore t (e .written)) (Zero (e .written))
-        (λ x k. record { marks = marks-over (alike-over _ _ same) (alike-over _ _ back) (k .marks); round = round-over _ _ same _ _ (k .round) }) (alikeReply r) (w .keeps);
+        (λ x k. record { marks = marks-there (λ p i. alike-over _ _ same p) (λ p i. alike-over _ _ back p) (k .marks); round = round-over _ _ same _ _ (k .round) }) (alikeReply r) (w .keeps);
     tidy = w .tidy;
   }
 
   pub maps-alignable-before : (s : Lent) (e : Left) (r : MappedAlignable) → MapsAlignable t s e r → MapsAlignableBefore t s e r
   maps-alignable-before s e r w = record {
     keeps = lowest-before tables-numbered (λ m f. VectorsFault.tables f) (before-20 all) (Marks (AlignableIn t) (t .sizes) (e .written)) (Marks (AlignableBefore t) (t .sizes) (e .written)) (Zero (e .written))
-        (λ x k. marks-over (alignable-over _ _ same) (alignable-over _ _ back) k) (alignableReply r) (w .keeps);
+        (λ x k. marks-there (λ p i. alignable-over _ _ same p) (λ p i. alignable-over _ _ back p) k) (alignableReply r) (w .keeps);
     tidy = w .tidy;
   }
 
@@ -128,7 +123,7 @@ module _ (t : Tables) (all : t .sizes .allowed ≡ everyVector (t .sizes .vector
     finds-before : (e : Left) (r : Found) → Finds t s p None Sought e r → FindsBefore t s p None′ Sought′ e r
     finds-before e r w = record {
       keeps = lowest-before former-numbered now former (Listed Sought (e .written)) (Listed Sought′ (e .written)) (Zero (e .written))
-          (λ n k. record { sought = to _ (k .sought); fits = k .fits; beyond = k .beyond }) (foundReply r) (w .keeps);
+          (λ n. listed-there to) (foundReply r) (w .keeps);
       tidy = w .tidy;
     }
 

@@ -14,7 +14,8 @@ use Rattle.memory.proofs.Slices.{zero-unique}
 use Rattle.machine.specs.declared.Found.{Found}
 use Rattle.machine.specs.declared.Pair.{Pair}
 use Rattle.machine.specs.declared.Sizes.{Sizes}
-use Rattle.machine.specs.Meaning.Tables.{Tables, pairs, Flag, holds, fails, AlikeIn, AlignableIn, TraceIn, ListIn}
+use Rattle.machine.specs.Meaning.Tables.{Tables, pairs, AlikeIn, AlignableIn, TraceIn, ListIn}
+use Rattle.machine.proofs.Flags.{flag-unique}
 use Rattle.machine.proofs.Pick.{picked-unique}
 use Rattle.machine.proofs.Lent.{same-left}
 use Rattle.machine.proofs.Rounds.{round-unique}
@@ -25,8 +26,8 @@ use Rattle.table_faults.proofs.Refusals.{vectors-some}
 use Rattle.opening.proofs.States.{state-some}
 use Rattle.engine.specs.declared.MappedAlike.{MappedAlike}
 use Rattle.engine.specs.declared.MappedAlignable.{MappedAlignable}
-use Rattle.machine.specs.Meaning.Lent.{Lent, Left, Tidy, Listed}
-use Rattle.engine.specs.Meaning.Maps.{AlikeCount, alikeReply, alignableReply, roomOf, Marks, MarksAlike, MapsAlike, MapsAlignable}
+use Rattle.machine.specs.Meaning.Lent.{Lent, Left, roomOf, Tidy, Listed}
+use Rattle.engine.specs.Meaning.Maps.{AlikeCount, alikeReply, alignableReply, Marks, MarksAlike, MapsAlike, MapsAlignable}
 use Rattle.engine.specs.Meaning.Pairs.{foundReply, PairFault, Finds, FindsTrace, FindsList}
 
 -- no reason has a number below 11
@@ -44,12 +45,6 @@ module _ {t : Tables} {s : Lent} {p : Pair} {None : Type 0} {Sought : List ℕ �
 
   pub found-not-zero : {e : Left} → Finds t s p None Sought e (Found.Refused 0) → ⊥
   found-not-zero m = omega (arith, pair-some (m .keeps .0 .applies))
-
-flag-unique : {P : Type 0} {x y : ℕ} → Flag P x → Flag P y → x ≡ y
-flag-unique (holds e p) (holds f q) = e ∙ sym f
-flag-unique (holds e p) (fails f n) = absurd (n p)
-flag-unique (fails e n) (holds f q) = absurd (n q)
-flag-unique (fails e n) (fails f m) = e ∙ sym f
 
 module _ {P : Pair → Type 0} {z : Sizes} {a b : List ℕ} {n m : ℕ} (x : Marks P z a n) (y : Marks P z b m) (long : length a ≡ length b) where
   same-marks : a ≡ b

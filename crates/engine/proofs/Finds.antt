@@ -1,5 +1,5 @@
 -- What a call for one pair finds, and the first number that applies to it.
-use Prim.Native.Nat.{ℕ, _≤_, min}
+use Prim.Native.Nat.{ℕ, _≤_}
 use mathlib.Core.Path.{_≡_, ap, _∙_}
 use mathlib.Core.Logic.{_⊎_, inl, inr}
 use mathlib.Core.List.{List}
@@ -18,7 +18,7 @@ use Rattle.machine.specs.declared.Found.{Found}
 use Rattle.machine.specs.declared.Pair.{Pair}
 use Rattle.machine.specs.Meaning.Tables.{Tables, AlikeIn, AlignableIn, TraceIn, ListIn}
 use Rattle.places.specs.Working.{Outcome, missing, short, steps, TraceOutcome, ListOutcome}
-use Rattle.machine.specs.Meaning.Lent.{Lent, leftOf, Listed}
+use Rattle.machine.specs.Meaning.Lent.{Lent, leftOf, Listed, scratchOf}
 use Rattle.machine.specs.Meaning.Faults.{StateFault}
 use Rattle.engine.specs.Meaning.Pairs.{foundReply, PairFault, FindsTrace, FindsList}
 use Rattle.machine.proofs.Pick.{picked-unique}
@@ -35,15 +35,15 @@ module _ (t : Tables) (s : Lent) (p : Pair) (None : Type 0) (Sought : List ℕ �
   abbrev Wrong : ℕ → Type 0
   Wrong n = PairFault t s p None Sought n
 
-  pub first-state : {n : ℕ} → First (StateFault t (min (s .depth) (s .reach)) p) n → First Wrong n
+  pub first-state : {n : ℕ} → First (StateFault t (scratchOf s) p) n → First Wrong n
   first-state {n} l = first-then (λ m f. PairFault.state f) l (λ m f. go f)
     where
-      go : {m : ℕ} → Wrong m → StateFault t (min (s .depth) (s .reach)) p m ⊎ (placeIn tableOrder n ≤ placeIn tableOrder m)
+      go : {m : ℕ} → Wrong m → StateFault t (scratchOf s) p m ⊎ (placeIn tableOrder n ≤ placeIn tableOrder m)
       go (PairFault.state f) = inl f
       go (PairFault.none o) = inr (omega (arith, state-place (l .applies), place-15))
       go (PairFault.short-list l′ o k) = inr (omega (arith, state-place (l .applies), place-16))
 
-  module _ (free : Free (StateFault t (min (s .depth) (s .reach)) p)) where
+  module _ (free : Free (StateFault t (scratchOf s) p)) where
     first-15 : None → First Wrong 15
     first-15 none = first-of-place (listed-stands 15 tableOrder tt) (PairFault.none none) (λ m f. go f)
       where
@@ -76,7 +76,7 @@ module _ (t : Tables) (s : Lent) (p : Pair) (None : Type 0) (Sought : List ℕ �
     )
 
 -- what a call for a pair promises, once its scratch is cleared: the trace and the list are each one list
-module _ (t : Tables) (s : Lent) (p : Pair) (free : Free (StateFault t (min (s .depth) (s .reach)) p)) {list list′ : List ℕ} {r : Found} (e : length list ≡ s .written) (e′ : length list′ ≡ s .written) (z : Zero list)
+module _ (t : Tables) (s : Lent) (p : Pair) (free : Free (StateFault t (scratchOf s) p)) {list list′ : List ℕ} {r : Found} (e : length list ≡ s .written) (e′ : length list′ ≡ s .written) (z : Zero list)
     {depth reach : List ℕ} (c : Cleared (s .depth) depth) (d : Cleared (s .reach) reach) where
   pub finds-trace : TraceOutcome t p list list′ r → FindsTrace t s p (leftOf depth reach list′) r
   finds-trace o = record {

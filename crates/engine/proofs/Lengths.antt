@@ -1,7 +1,7 @@
 -- How many steps the trace, or the list, of one pair has at most, and which list slice is never too short for it.
 use mathlib.Core.Path.{_≡_, refl}
 use mathlib.Core.List.{List}
-use Prim.Native.Nat.{ℕ, _≤_, _-_, min}
+use Prim.Native.Nat.{ℕ, _≤_, _-_}
 use native.Mathlib.Omega.{arith}
 use lib.ListN.{length, take}
 use lib.Seq.{length-take-le}
@@ -11,7 +11,7 @@ use Rattle.machine.specs.declared.Found.{Found}
 use Rattle.machine.specs.declared.Pair.{Pair}
 use Rattle.machine.specs.Meaning.Tables.{Tables, pairs, Ok, oldMachine, newMachine, TraceIn, ListIn}
 use Rattle.machine.specs.Meaning.Faults.{TablesFault, VectorsFault, StateFault}
-use Rattle.machine.specs.Meaning.Lent.{Lent, Left}
+use Rattle.machine.specs.Meaning.Lent.{Lent, Left, scratchOf}
 use Rattle.machine.specs.Meaning.Bounds.{mostTrace, traceRoom}
 use Rattle.machine.proofs.Tables.{tables-stay}
 use Rattle.machine.proofs.Bounds.{list-short, tables-bounded, tables-trace-room}
@@ -21,10 +21,10 @@ use Rattle.engine.proofs.Finds.{place-16}
 
 module _ (t : Tables) (s : Lent) (p : Pair) where
   abbrev None : Type 0
-  None = Free (StateFault t (min (s .depth) (s .reach)) p)
+  None = Free (StateFault t (scratchOf s) p)
 
   -- none of 11 to 14 and 20: 11 and 13 are of the tables
-  tables-free : None → (n : ℕ) → TablesFault t (min (s .depth) (s .reach)) n → ⊥
+  tables-free : None → (n : ℕ) → TablesFault t (scratchOf s) n → ⊥
   tables-free none n f = none n (StateFault.call (VectorsFault.tables f))
 
   trace-most : None → (l : List ℕ) → TraceIn t p l → length l ≤ mostTrace (t .sizes)

@@ -3,3 +3,4 @@ pub mod Finds
 pub mod Determined
 pub mod Before
 pub mod Lengths
+pub mod Steps

@@ -10,24 +10,24 @@ use Rattle.numbers.proofs.Order.{zero-or}
 use Rattle.memory.specs.Meaning.Slices.{Zero}
 use Rattle.machine.specs.declared.Pair.{Pair}
 use Rattle.machine.specs.declared.Sizes.{Sizes}
-use Rattle.machine.specs.Meaning.Tables.{Tables, pairs, number, at, In, Ok, Flag, holds, fails, oldMachine, newMachine, AlikeIn, AlignableIn, RoundIn}
+use Rattle.machine.specs.Meaning.Tables.{Tables, pairs, number, at, In, Ok, Flag, oldMachine, newMachine, AlikeIn, AlignableIn, RoundIn}
 use Rattle.machine.specs.Working.Pairs.{DiffersIn}
+use Rattle.machine.proofs.Flags.{flag-holds, flag-is, flag-there}
 use Rattle.machine.proofs.Rounds.{first-unchanged}
 use Rattle.flags.specs.Working.{Flagged}
 use Rattle.machine.proofs.Numbers.{number-in}
 use Rattle.places.specs.Working.{Good, MapFor}
 use Rattle.seek.specs.Working.Steps.{MapOf}
 use Rattle.places.proofs.Right.{alike-of-zero, zero-of-alike}
-use Rattle.seek.proofs.Sets.{flag-is, flag-there}
 use Rattle.engine.specs.Meaning.Maps.{Marks}
 
 -- what fits the shortest of three fits each
 pub fits-each : {k a b c : ℕ} → k ≤ min a (min b c) → (k ≤ a) × (k ≤ b) × (k ≤ c)
 fits-each h = (omega arith, omega arith, omega arith)
 
-flag-positive : {P : Type 0} {x : ℕ} → Flag P x → 0 < x → P
-flag-positive (holds e p) h = p
-flag-positive (fails e n) h = absurd (omega arith)
+-- the marks of a set are those of any set of the same pairs
+pub marks-there : {P Q : Pair → Type 0} {z : Sizes} {mark : List ℕ} {n : ℕ} → ((p : Pair) → In z p → P p → Q p) → ((p : Pair) → In z p → Q p → P p) → Marks P z mark n → Marks Q z mark n
+marks-there to from w = record { each = λ p i. flag-there (to p i) (from p i) (w .each p i); beyond = w .beyond; counts = w .counts }
 
 module _ (t : Tables) (g : Good t) where
   abbrev z : Sizes
@@ -52,7 +52,7 @@ module _ (t : Tables) (g : Good t) where
       flag p i = f .each (number z p) (number-in z p i)
 
       there : (p : Pair) → In z p → 0 < at z e′ p → AlikeIn t p
-      there p i s = alike-of-zero t g m p i (flag-positive (flag p i) s)
+      there p i s = alike-of-zero t g m p i (flag-holds (flag p i) s)
 
       back : (p : Pair) → In z p → AlikeIn t p → 0 < at z e′ p
       back p i a = omega (arith, flag-is (flag p i) (zero-of-alike t g m p i a))

@@ -6,6 +6,7 @@ ghost use mathlib.Core.Path.{_≡_};
 ghost use Prim.Native.Nat.{ℕ, _+_, _^_, _<_, _≤_};
 ghost use lib.ListN.{getD};
 ghost use Rattle.numbers.specs.Meaning.Bits.{horner};
+ghost use Rattle.memory.specs.Meaning.Slices.{atEntry, atExit};
 ghost use Rattle.memory.specs.Working.Filling.{Filled};
 ghost use Rattle.netlist.specs.Meaning.Gates.{firstOf, secondOf};
 ghost use Rattle.netlist.specs.Meaning.Nets.{cellBase, gateValue, source, value, latched, nextState, outputs};
@@ -109,7 +110,7 @@ fn sources(d: Design, s: usize, v: usize) -> [u8; Image::MOST_NETS]
 // Puts the bits of a number, the most significant first, at the nets from a start on.
 fn spread(vals: &mut [u8; Image::MOST_NETS], start: usize, width: usize, number: usize)
     requires { ⌜ (start + width ≤ mostNets) × (width ≤ 8) ⌝ }
-    ensures { λ _. ⌜ Spreads start width number width (now (vals .entry)) (now (vals .exit)) ⌝ }
+    ensures { λ _. ⌜ Spreads start width number width (atEntry vals) (atExit vals) ⌝ }
 {
     let mut j = 0;
     while j < width {
@@ -122,7 +123,7 @@ fn spread(vals: &mut [u8; Image::MOST_NETS], start: usize, width: usize, number:
 // What a gate makes of the values of the nets that it reads: of two values AND, OR or XOR, or one of these inverted.
 fn gate_value(g: Gate, vals: &[u8; Image::MOST_NETS]) -> u8
     requires { ⌜ (firstOf g < mostNets) × (secondOf g < mostNets) × ((n : ℕ) → getD (now vals) n 0 < 2) ⌝ }
-    ensures { λ r. ⌜ r ≡ gateValue g (λ n. getD (now (vals .entry)) n 0) ⌝ }
+    ensures { λ r. ⌜ r ≡ gateValue g (λ n. getD (atEntry vals) n 0) ⌝ }
 {
     match g {
         Gate::Buf(a) => vals[a as usize],
@@ -146,7 +147,7 @@ fn next_word(
     vals: &[u8; Image::MOST_NETS],
 ) -> u8
     requires { ⌜ Latchable (now «data») (now enable) (now clear) own n (now vals) ⌝ }
-    ensures { λ r. ⌜ r ≡ horner (latchedIn (now («data» .entry)) (now (enable .entry)) (now (clear .entry)) own (now (vals .entry))) n ⌝ }
+    ensures { λ r. ⌜ r ≡ horner (latchedIn (atEntry «data») (atEntry enable) (atEntry clear) own (atEntry vals)) n ⌝ }
 {
     let mut r: u8 = 0;
     let mut k = 0;
@@ -163,7 +164,7 @@ fn next_word(
 // The value of the net at a place of a list.
 fn value_of(nets: &[u16], k: usize, vals: &[u8; Image::MOST_NETS]) -> u8
     requires { ⌜ getD (now nets) k 0 < mostNets ⌝ }
-    ensures { λ r. ⌜ r ≡ getD (now (vals .entry)) (getD (now (nets .entry)) k 0) 0 ⌝ }
+    ensures { λ r. ⌜ r ≡ getD (atEntry vals) (getD (atEntry nets) k 0) 0 ⌝ }
 {
     let net = netlist::net_at(nets, k);
     vals[net]
@@ -185,7 +186,7 @@ fn latch(clear: u8, enable: u8, data: u8, held: u8) -> u8
 // The number that the values of the first n nets of a list spell, the first net most significant.
 fn word(nets: &[u16], n: usize, vals: &[u8; Image::MOST_NETS]) -> u8
     requires { ⌜ Readable (now nets) n (now vals) ⌝ }
-    ensures { λ r. ⌜ r ≡ horner (λ k. getD (now (vals .entry)) (getD (now (nets .entry)) k 0) 0) n ⌝ }
+    ensures { λ r. ⌜ r ≡ horner (λ k. getD (atEntry vals) (getD (atEntry nets) k 0) 0) n ⌝ }
 {
     let mut r: u8 = 0;
     let mut k = 0;

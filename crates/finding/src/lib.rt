@@ -2,7 +2,8 @@
 ghost use mathlib.Core.Path.{_≡_};
 ghost use Prim.Native.Nat.{_≤_};
 ghost use lib.ListN.{length};
-ghost use Rattle.machine.specs.Meaning.Tables.{bothTables, pairs, at, In};
+ghost use Rattle.memory.specs.Meaning.Slices.{atEntry, atExit};
+ghost use Rattle.machine.specs.Meaning.Tables.{tablesAtEntry, tablesNow, pairs, at, In};
 ghost use Rattle.machine.specs.Working.Pairs.{DiffersIn};
 ghost use Rattle.places.specs.Working.{Walk, Ready, Good, MapFor, ListTo, Outcome, TraceOutcome};
 use machine::Found;
@@ -23,11 +24,12 @@ pub fn find_trace(
     map: &[u16],
     list: &mut [u8],
 ) -> Found
-    requires { ⌜ Good (bothTables sizes (now «old_next») (now «old_out») (now «old_seen») (now «new_next») (now «new_out») (now «new_seen»)) ⌝ }
+    requires { ⌜ Good (tablesNow sizes «old_next» «old_out» «old_seen» «new_next» «new_out» «new_seen») ⌝ }
     requires { ⌜ pairs sizes ≤ length (now map) ⌝ }
-    requires { ⌜ MapFor (bothTables sizes (now «old_next») (now «old_out») (now «old_seen») (now «new_next») (now «new_out») (now «new_seen»)) (DiffersIn (bothTables sizes (now «old_next») (now «old_out») (now «old_seen») (now «new_next») (now «new_out») (now «new_seen»))) (now map) ⌝ }
+    requires { ⌜ MapFor (tablesNow sizes «old_next» «old_out» «old_seen» «new_next» «new_out» «new_seen»)
+        (DiffersIn (tablesNow sizes «old_next» «old_out» «old_seen» «new_next» «new_out» «new_seen»)) (now map) ⌝ }
     requires { ⌜ In sizes p ⌝ }
-    ensures { λ r. ⌜ TraceOutcome (bothTables sizes (now («old_next» .entry)) (now («old_out» .entry)) (now («old_seen» .entry)) (now («new_next» .entry)) (now («new_out» .entry)) (now («new_seen» .entry))) p (now (list .entry)) (now (list .exit)) r ⌝ }
+    ensures { λ r. ⌜ TraceOutcome (tablesAtEntry sizes «old_next» «old_out» «old_seen» «new_next» «new_out» «new_seen») p (atEntry list) (atExit list) r ⌝ }
 {
     let steps = places::map_at(sizes, map, p);
     if steps == 0 {
@@ -56,7 +58,8 @@ pub fn find_list(
     requires { ⌜ Walk sizes (now «old_next») (now «new_next») (now map) ⌝ }
     requires { ⌜ Ready sizes (now «old_next») (now «new_next») (now map) ⌝ }
     requires { ⌜ In sizes p ⌝ }
-    ensures { λ r. ⌜ Outcome (at sizes (now (map .entry)) p ≡ 0) (ListTo sizes (now («old_next» .entry)) (now («new_next» .entry)) (now (map .entry)) prior p) (now (list .entry)) (now (list .exit)) r ⌝ }
+    ensures { λ r. ⌜ Outcome (at sizes (atEntry map) p ≡ 0) (ListTo sizes (atEntry «old_next») (atEntry «new_next») (atEntry map) prior p)
+        (atEntry list) (atExit list) r ⌝ }
 {
     let above = places::map_at(sizes, map, p);
     if above == 0 {

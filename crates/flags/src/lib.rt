@@ -3,6 +3,7 @@
 ghost use mathlib.Core.Path.{_≡_};
 ghost use Prim.Native.Nat.{_<_, _≤_};
 ghost use lib.ListN.{length, getD};
+ghost use Rattle.memory.specs.Meaning.Slices.{atEntry, atExit};
 ghost use Rattle.machine.specs.Meaning.Tables.{pairs, In};
 ghost use Rattle.numbers.specs.Meaning.Count.{countOf};
 ghost use Rattle.memory.specs.Working.Tests.{Tells};
@@ -24,7 +25,8 @@ pub fn differ(
     requires { ⌜ Ample sizes (now «old_out») (now «new_out») ⌝ }
     requires { ⌜ Ample sizes (now «old_seen») (now «new_seen») ⌝ }
     requires { ⌜ pairs sizes ≤ length (now map) ⌝ }
-    ensures { λ r. ⌜ Flagged (DiffersAt sizes (now («old_out» .entry)) (now («old_seen» .entry)) (now («new_out» .entry)) (now («new_seen» .entry))) (pairs sizes) (now (map .entry)) (now (map .exit)) ⌝ }
+    ensures { λ r. ⌜ Flagged (DiffersAt sizes (atEntry «old_out») (atEntry «old_seen») (atEntry «new_out») (atEntry «new_seen»))
+        (pairs sizes) (atEntry map) (atExit map) ⌝ }
 {
     let end = places::total(sizes);
     let mut i = 0;
@@ -54,7 +56,8 @@ pub fn chosen_different(
     requires { ⌜ Ample sizes (now «old_out») (now «new_out») ⌝ }
     requires { ⌜ Ample sizes (now «old_seen») (now «new_seen») ⌝ }
     requires { ⌜ In sizes p ⌝ }
-    ensures { λ r. ⌜ ChosenBelow prior (Different sizes (now («old_out» .entry)) (now («old_seen» .entry)) (now («new_out» .entry)) (now («new_seen» .entry)) p) (sizes .vectors) r ⌝ }
+    ensures { λ r. ⌜ ChosenBelow prior (Different sizes (atEntry «old_out») (atEntry «old_seen») (atEntry «new_out») (atEntry «new_seen») p)
+        (sizes .vectors) r ⌝ }
 {
     if let Prior::Vector(u) = prior {
         if u < sizes.vectors {
@@ -69,7 +72,7 @@ pub fn chosen_different(
 // The first n entries of a map become 1 where they are 0, and 0 elsewhere.
 pub fn flag_zeros(entries: &mut [u16], n: usize)
     requires { ⌜ n ≤ length (now entries) ⌝ }
-    ensures { λ r. ⌜ Flagged (λ q. getD (now (entries .entry)) q 0 ≡ 0) n (now (entries .entry)) (now (entries .exit)) ⌝ }
+    ensures { λ r. ⌜ Flagged (λ q. getD (atEntry entries) q 0 ≡ 0) n (atEntry entries) (atExit entries) ⌝ }
 {
     let mut i = 0;
     while i < n {
@@ -87,8 +90,8 @@ pub fn mark_positive(map: &[u16], n: usize, mark: &mut [u8]) -> usize
     requires { ⌜ n ≤ length (now map) ⌝ }
     requires { ⌜ n ≤ length (now mark) ⌝ }
     requires { ⌜ n ≤ 16384 ⌝ }
-    ensures { λ r. ⌜ Flagged (λ q. 0 < getD (now (map .entry)) q 0) n (now (mark .entry)) (now (mark .exit)) ⌝ }
-    ensures { λ r. ⌜ r ≡ countOf 1 (now (mark .exit)) n ⌝ }
+    ensures { λ r. ⌜ Flagged (λ q. 0 < getD (atEntry map) q 0) n (atEntry mark) (atExit mark) ⌝ }
+    ensures { λ r. ⌜ r ≡ countOf 1 (atExit mark) n ⌝ }
 {
     let mut count = 0;
     let mut i = 0;
@@ -116,7 +119,7 @@ fn different_vector(
     requires { ⌜ Ample sizes (now «old_out») (now «new_out») ⌝ }
     requires { ⌜ Ample sizes (now «old_seen») (now «new_seen») ⌝ }
     requires { ⌜ In sizes p ⌝ }
-    ensures { λ r. ⌜ LowestBelow (Different sizes (now («old_out» .entry)) (now («old_seen» .entry)) (now («new_out» .entry)) (now («new_seen» .entry)) p) (sizes .vectors) r ⌝ }
+    ensures { λ r. ⌜ LowestBelow (Different sizes (atEntry «old_out») (atEntry «old_seen») (atEntry «new_out») (atEntry «new_seen») p) (sizes .vectors) r ⌝ }
 {
     let mut vector = 0;
     while vector < sizes.vectors {
@@ -142,7 +145,7 @@ fn shows(
     requires { ⌜ Ample sizes (now «old_seen») (now «new_seen») ⌝ }
     requires { ⌜ In sizes p ⌝ }
     requires { ⌜ v < sizes .vectors ⌝ }
-    ensures { λ r. ⌜ Tells r (Different sizes (now («old_out» .entry)) (now («old_seen» .entry)) (now («new_out» .entry)) (now («new_seen» .entry)) p v) ⌝ }
+    ensures { λ r. ⌜ Tells r (Different sizes (atEntry «old_out») (atEntry «old_seen») (atEntry «new_out») (atEntry «new_seen») p v) ⌝ }
 {
     if !places::allows(sizes, v) {
         return false;

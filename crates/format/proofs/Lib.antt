@@ -5,3 +5,4 @@ pub mod Headers
 pub mod Decoding
 pub mod Carried
 pub mod Order
+pub mod Front

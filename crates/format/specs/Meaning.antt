@@ -2,3 +2,4 @@
 pub mod Version
 pub mod Format
 pub mod Faults
+pub mod Front

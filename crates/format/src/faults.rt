@@ -5,6 +5,7 @@ ghost use mathlib.Core.List.{List};
 ghost use Prim.Native.Nat.{ℕ, _+_, _-_, _*_, _^_, _<_, _≤_};
 ghost use lib.ListN.{length};
 ghost use Rattle.memory.specs.Meaning.Refusals.{Free, FirstOrNone};
+ghost use Rattle.memory.specs.Meaning.Slices.{atEntry};
 ghost use Rattle.memory.specs.Working.Tests.{Tells, Splits};
 ghost use Rattle.netlist.specs.Meaning.Faults.{DesignFault};
 ghost use Rattle.format.specs.Meaning.Version.{versionOf};
@@ -72,8 +73,10 @@ fn over_limit(h: Header) -> bool
 // a net that is read, and 9; `needed` is the version that the design needs. Nets that no cell reads, the pad, the length and a version
 // that is not needed are left to look at.
 pub fn field_fault(image: &[u8], h: Header, found: u8, needed: u16) -> u8
-    requires { ⌜ (SpellsHeader (now image) h) × ((Free (HeaderFault (now image))) × ((FirstOrNone (DesignFault (decoded (now image))) found) × (needed ≡ versionOf (decoded (now image))))) ⌝ }
-    ensures { λ r. ⌜ FirstOrNone (ImageFault (now (image .entry))) r ⌝ }
+    requires { ⌜ (SpellsHeader (now image) h)
+        × ((Free (HeaderFault (now image)))
+        × ((FirstOrNone (DesignFault (decoded (now image))) found) × (needed ≡ versionOf (decoded (now image))))) ⌝ }
+    ensures { λ r. ⌜ FirstOrNone (ImageFault (atEntry image)) r ⌝ }
 {
     if found == 5 {
         return 5;
@@ -104,7 +107,7 @@ pub fn field_fault(image: &[u8], h: Header, found: u8, needed: u16) -> u8
 // The number that the bits from `end` to the end of the image's last byte spell.
 fn pad(image: &[u8], end: usize, bytes: usize) -> u16
     requires { ⌜ (end ≤ 8 * bytes) × ((8 * bytes < end + 8) × (bytes ≤ 2048)) ⌝ }
-    ensures { λ r. ⌜ r ≡ fieldAt (now (image .entry)) end (8 * bytes - end) ⌝ }
+    ensures { λ r. ⌜ r ≡ fieldAt (atEntry image) end (8 * bytes - end) ⌝ }
 {
     let taken = reader::run(image, end, 8 * bytes - end, 0, 0, 0, 0);
     taken.first
@@ -113,7 +116,7 @@ fn pad(image: &[u8], end: usize, bytes: usize) -> u16
 // Whether the second net of some cell that reads one net is above `most`; there are `count` cells.
 fn unread_above(image: &[u8], count: usize, most: u16) -> bool
     requires { ⌜ (count ≡ countIn (now image)) × (count < 2 ^ countBits) ⌝ }
-    ensures { λ r. ⌜ Splits r (UnreadAbove (now (image .entry)) most) (UnreadBelow (now (image .entry)) most (countIn (now (image .entry)))) ⌝ }
+    ensures { λ r. ⌜ Splits r (UnreadAbove (atEntry image) most) (UnreadBelow (atEntry image) most (countIn (atEntry image))) ⌝ }
 {
     let mut i = 0;
     while i < count {

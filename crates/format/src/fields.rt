@@ -4,6 +4,7 @@ ghost use mathlib.Core.Bool.{cond};
 ghost use lib.Dec.{eqb};
 ghost use Prim.Native.Nat.{_+_, _*_, _^_, _<_, _≤_};
 ghost use Rattle.limits.specs.Meaning.Layout.{countBits, netBits, netsEach, tailsFor, bitsFor, bytesFor};
+ghost use Rattle.memory.specs.Meaning.Slices.{atEntry};
 ghost use Rattle.format.specs.Meaning.Format.{countIn, cellAt, tailIn};
 ghost use Rattle.format.specs.Working.Scanning.{SpellsHeader, Narrow, SpellsCell};
 use limits::Image;
@@ -18,7 +19,7 @@ pub struct Header {
 }
 
 pub fn header_of(image: &[u8]) -> Header
-    ensures { λ r. ⌜ SpellsHeader (now (image .entry)) r ⌝ }
+    ensures { λ r. ⌜ SpellsHeader (atEntry image) r ⌝ }
 {
     let size = Image::SIZE_BITS;
     let taken = reader::run(image, 0, size, size, size, size, Image::COUNT_BITS);
@@ -92,7 +93,7 @@ pub struct CellFields {
 
 pub fn cell(image: &[u8], i: usize) -> CellFields
     requires { ⌜ i < 2 ^ countBits ⌝ }
-    ensures { λ r. ⌜ SpellsCell (now (image .entry)) i r ⌝ }
+    ensures { λ r. ⌜ SpellsCell (atEntry image) i r ⌝ }
 {
     let at = Image::HEADER_BITS + Image::CELL_BITS * i;
     let taken = reader::run(
@@ -114,7 +115,7 @@ pub fn cell(image: &[u8], i: usize) -> CellFields
 // Net t behind the cells, of which there are `count`.
 pub fn tail(image: &[u8], count: usize, t: usize) -> u16
     requires { ⌜ (count ≡ countIn (now image)) × ((count < 2 ^ countBits) × (t < 2 ^ netBits)) ⌝ }
-    ensures { λ r. ⌜ r ≡ tailIn (now (image .entry)) t ⌝ }
+    ensures { λ r. ⌜ r ≡ tailIn (atEntry image) t ⌝ }
 {
     let at = tail_at(count, t);
     let taken = reader::run(image, at, Image::NET_BITS, 0, 0, 0, 0);

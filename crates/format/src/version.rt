@@ -1,5 +1,6 @@
 // Which version the image of a design has.
 ghost use mathlib.Core.Path.{_≡_};
+ghost use Rattle.memory.specs.Meaning.Slices.{atEntry};
 ghost use Rattle.format.specs.Meaning.Version.{plainTo, versionOf};
 use netlist::Design;
 
@@ -16,7 +17,7 @@ pub fn version_of(d: Design) -> u16
 }
 
 fn plain_to(enable: &[u16], clear: &[u16], n: usize) -> bool
-    ensures { λ r. ⌜ r ≡ plainTo (now (enable .entry)) (now (clear .entry)) n ⌝ }
+    ensures { λ r. ⌜ r ≡ plainTo (atEntry enable) (atEntry clear) n ⌝ }
 {
     let mut k = 0;
     while k < n {

@@ -5,3 +5,4 @@ pub mod Empty
 pub mod Long
 pub mod Taking
 pub mod VersionOne
+pub mod Front

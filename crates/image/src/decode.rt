@@ -2,6 +2,7 @@
 ghost use mathlib.Core.Path.{_≡_};
 ghost use Prim.Native.Nat.{_+_, _*_, _^_, _<_, _≤_};
 ghost use lib.ListN.{length};
+ghost use Rattle.memory.specs.Meaning.Slices.{atEntry, atExit};
 ghost use Rattle.memory.specs.Working.Filling.{Filled};
 ghost use Rattle.limits.specs.Meaning.Limits.{mostOutputs, mostCells};
 ghost use Rattle.limits.specs.Meaning.Layout.{countBits, kindBits, netsEach};
@@ -20,7 +21,7 @@ use netlist::Gate;
 
 pub(crate) fn decode(image: &[u8], h: Header) -> Design
     requires { ⌜ (SpellsHeader (now image) h) × (WithinLimits (now image)) ⌝ }
-    ensures { λ r. ⌜ r ≡ decoded (now (image .entry)) ⌝ }
+    ensures { λ r. ⌜ r ≡ decoded (atEntry image) ⌝ }
 {
     let count = h.count as usize;
     let latches = h.latches as usize;
@@ -68,7 +69,7 @@ pub(crate) fn empty() -> Design
 // The cells of an image, blank beyond them.
 fn cells_of(image: &[u8], count: usize) -> [Cell; Image::MOST_CELLS]
     requires { ⌜ count ≤ mostCells ⌝ }
-    ensures { λ r. ⌜ Filled (cellIn (now (image .entry))) blankCell mostCells count r ⌝ }
+    ensures { λ r. ⌜ Filled (cellIn (atEntry image)) blankCell mostCells count r ⌝ }
 {
     let mut cells = [Cell { gate: Gate::Buf(0) }; Image::MOST_CELLS];
     let mut i = 0;
@@ -83,7 +84,7 @@ fn cells_of(image: &[u8], count: usize) -> [Cell; Image::MOST_CELLS]
 
 fn gate_at(image: &[u8], i: usize) -> Gate
     requires { ⌜ i < mostCells ⌝ }
-    ensures { λ r. ⌜ r ≡ gateIn (now (image .entry)) i ⌝ }
+    ensures { λ r. ⌜ r ≡ gateIn (atEntry image) i ⌝ }
 {
     let cell = fields::cell(image, i);
     gate_of(cell.kind, cell.first, cell.second)
@@ -120,8 +121,9 @@ fn two_nets(kind: u16, a: u16, b: u16) -> Gate
 
 // Puts n nets behind the cells, of which there are `count`, at the front of a list: net t, and then each that stands `step` further.
 fn take_nets(image: &[u8], count: usize, t: usize, step: usize, n: usize, nets: &mut [u16])
-    requires { ⌜ ((count ≡ countIn (now image)) × (count < 2 ^ countBits)) × ((t ≤ mostTails) × ((step ≤ netsEach 2) × ((n ≤ mostOutputs) × (n ≤ length (now nets))))) ⌝ }
-    ensures { λ _. ⌜ Takes (λ k. tailIn (now (image .entry)) (step * k + t)) n (now (nets .entry)) (now (nets .exit)) ⌝ }
+    requires { ⌜ ((count ≡ countIn (now image)) × (count < 2 ^ countBits))
+        × ((t ≤ mostTails) × ((step ≤ netsEach 2) × ((n ≤ mostOutputs) × (n ≤ length (now nets))))) ⌝ }
+    ensures { λ _. ⌜ Takes (λ k. tailIn (atEntry image) (step * k + t)) n (atEntry nets) (atExit nets) ⌝ }
 {
     let mut k = 0;
     while k < n {

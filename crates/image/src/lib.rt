@@ -2,6 +2,7 @@
 mod decode;
 
 ghost use mathlib.Core.Path.{_≡_};
+ghost use Rattle.memory.specs.Meaning.Slices.{atEntry};
 ghost use Rattle.image.specs.Meaning.Reading.{Measures, ReadsImage, emptyDesign};
 use format::faults;
 use format::fields;
@@ -15,7 +16,7 @@ pub enum Length {
 
 // How many bytes the image at the front of a slice takes. What follows it is not looked at, so that images can stand back to back.
 pub fn length_of(image: &[u8]) -> Length
-    ensures { λ r. ⌜ Measures (now (image .entry)) r ⌝ }
+    ensures { λ r. ⌜ Measures (atEntry image) r ⌝ }
 {
     let h = fields::header_of(image);
     let number = faults::header_fault(image.len(), h);
@@ -38,7 +39,7 @@ pub struct Reading {
 
 // The design that an image spells.
 pub fn read(image: &[u8]) -> Reading
-    ensures { λ r. ⌜ ReadsImage (now (image .entry)) r ⌝ }
+    ensures { λ r. ⌜ ReadsImage (atEntry image) r ⌝ }
 {
     let h = fields::header_of(image);
     let number = faults::header_fault(image.len(), h);
@@ -57,7 +58,7 @@ pub fn read(image: &[u8]) -> Reading
     }
 }
 
-// A refusal, with the empty design beside it.
+// A refusal by whatever number a reader found, with the empty design beside it; no answer by itself.
 pub fn refusal(number: u8) -> Reading
     ensures { λ r. ⌜ (r .answer ≡ Answer.Refused number) × (r .design ≡ emptyDesign) ⌝ }
 {

@@ -2,6 +2,7 @@
 ghost use mathlib.Core.Path.{_≡_};
 ghost use Prim.Native.Nat.{_≤_};
 ghost use lib.ListN.{length};
+ghost use Rattle.memory.specs.Meaning.Slices.{atEntry, atExit};
 ghost use Rattle.pieces.specs.Meaning.Pieces.{Printed};
 ghost use Rattle.streams.specs.Meaning.Input.{Within};
 ghost use Rattle.streams.specs.Meaning.Output.{Sends};
@@ -15,7 +16,7 @@ use streams::Output;
 // The room has one byte more than the largest image, so that bytes left over are noticed.
 pub fn answer(room: &[u8], input: Input, text: &mut [u8]) -> Output
     requires { ⌜ (length (now room) ≡ mostRead) × (Within input (now room)) × (120 ≤ length (now text)) ⌝ }
-    ensures { λ r. ⌜ Sends unreadMessage Inspects input (now (room .entry)) (now (text .exit)) (r .stream) (r .length) ⌝ }
+    ensures { λ r. ⌜ Sends unreadMessage Inspects input (atEntry room) (atExit text) (r .stream) (r .length) ⌝ }
 {
     let Input::Read(n) = input else {
         return streams::put_unread(b"inspect: standard input cannot be read\n", text);
@@ -34,7 +35,7 @@ pub fn answer(room: &[u8], input: Input, text: &mut [u8]) -> Output
 // The sizes of a design, in one line.
 fn put_sizes(design: Design, text: &mut [u8]) -> usize
     requires { ⌜ 120 ≤ length (now text) ⌝ }
-    ensures { λ r. ⌜ Printed (sizesText design) (now (text .exit)) r ⌝ }
+    ensures { λ r. ⌜ Printed (sizesText design) (atExit text) r ⌝ }
 {
     let inputs = pieces::put_field(b"INPUTS ", design.inputs as usize, text, 0);
     let outputs = pieces::put_field(b" OUTPUTS ", design.outputs as usize, text, inputs);

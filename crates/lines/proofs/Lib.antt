@@ -1,3 +1,5 @@
 pub mod Scanning
 pub mod Fields
 pub mod Rows
+pub mod Front
+pub mod Long

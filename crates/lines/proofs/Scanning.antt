@@ -109,7 +109,7 @@ behind-front (x ∷ s) = ⊎-elim
     (split (digit x))
 
 -- a number grows with each digit
-onward-le : (n : ℕ) (w : List ℕ) → n ≤ onward n w
+pub onward-le : (n : ℕ) (w : List ℕ) → n ≤ onward n w
 unfolding onward
 onward-le n [] = omega arith
 onward-le n (x ∷ w) = omega (arith, onward-le (n * 10 + (x - 48)) w)

@@ -4,6 +4,7 @@
 ghost use mathlib.Core.Path.{_≡_};
 ghost use Prim.Native.Nat.{_<_, _≤_};
 ghost use lib.ListN.{length, drop};
+ghost use Rattle.memory.specs.Meaning.Slices.{atEntry, lengthAtEntry};
 ghost use Rattle.lines.specs.Meaning.Spelling.{digit};
 ghost use Rattle.lines.specs.Working.Scanning.{cap, NumberAt, FieldAt};
 ghost use Rattle.lines.specs.Working.Rows.{RowAt};
@@ -22,7 +23,8 @@ pub struct Row {
 // The line of up to three numbers up to `most` at a place; count 0 where there is none.
 pub fn scan(text: &[u8], at: usize, most: u16) -> Row
     requires { ⌜ (at ≤ length (now text)) × (most < cap) ⌝ }
-    ensures { λ r. ⌜ RowAt most (drop at (now (text .entry))) (r .count) (r .first) (r .second) (r .third) (drop (r .end) (now (text .entry))) × (r .end ≤ length (now (text .entry))) ⌝ }
+    ensures { λ r. ⌜ RowAt most (drop at (atEntry text)) (r .count) (r .first) (r .second) (r .third) (drop (r .end) (atEntry text))
+        × (r .end ≤ lengthAtEntry text) ⌝ }
 {
     let a = take(text, at);
     if a.value > most {
@@ -84,7 +86,7 @@ pub struct Taken {
 // The number at a place with its space or line feed; stop byte 0 where there is none.
 pub fn take(text: &[u8], at: usize) -> Taken
     requires { ⌜ at ≤ length (now text) ⌝ }
-    ensures { λ r. ⌜ FieldAt (drop at (now (text .entry))) (r .value) (r .stop) (drop (r .end) (now (text .entry))) × (r .end ≤ length (now (text .entry))) ⌝ }
+    ensures { λ r. ⌜ FieldAt (drop at (atEntry text)) (r .value) (r .stop) (drop (r .end) (atEntry text)) × (r .end ≤ lengthAtEntry text) ⌝ }
 {
     let n = digits(text, at);
     let end = n.end;
@@ -131,7 +133,7 @@ struct Run {
 // The number that the digits from a place on spell, and where they end.
 fn digits(text: &[u8], at: usize) -> Run
     requires { ⌜ at ≤ length (now text) ⌝ }
-    ensures { λ r. ⌜ NumberAt (now (text .entry)) at (r .value) (r .end) ⌝ }
+    ensures { λ r. ⌜ NumberAt (atEntry text) at (r .value) (r .end) ⌝ }
 {
     let mut n: u16 = 0;
     let mut i = at;

@@ -15,16 +15,7 @@ use Rattle.machine.specs.Meaning.Tables.{pairs, number, at, In, Flag, ho
 use Rattle.machine.specs.Meaning.Counts.{Counts}
 use Rattle.machine.specs.Working.Pairs.{pairAt}
 use Rattle.machine.proofs.Numbers.{pairAt-in, at-pair, number-in}
-
-flag-unique : {P : Type 0} {x y : ℕ} → Flag P x → Flag P y → x ≡ y
-flag-unique (holds e p) (holds f q) = e ∙ sym f
-flag-unique (holds e p) (fails f n) = absurd (n p)
-flag-unique (fails e n) (holds f q) = absurd (n q)
-flag-unique (fails e n) (fails f m) = e ∙ sym f
-
-flag-there : {P Q : Type 0} {x : ℕ} → (P → Q) → (Q → P) → Flag P x → Flag Q x
-flag-there to from (holds e p) = holds e (to p)
-flag-there to from (fails e n) = fails e (λ q. n (from q))
+use Rattle.machine.proofs.Flags.{flag-unique, flag-there}
 
 -- no two numbers count the same pairs
 pub counts-unique : {P : Pair → Type 0} {z : Sizes} {n m : ℕ} → Counts P z n → Counts P z m → n ≡ m

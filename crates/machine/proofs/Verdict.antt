@@ -14,7 +14,7 @@ use Rattle.machine.specs.Meaning.Lists.{Each, run, Leads}
 use Rattle.machine.specs.Meaning.Pick.{after}
 use Rattle.machine.specs.Meaning.Machine.{Machine, step, Alike, IsTrace, ListAfter}
 use Rattle.machine.specs.Meaning.Tables.{number, In}
-use Rattle.machine.specs.Meaning.Verdict.{May, LowestOpen, Rounds, done, more, LowestApart, IsSame, IsApart, VerdictList, same, apart}
+use Rattle.machine.specs.Meaning.Verdict.{May, LowestOpen, Rounds, done, more, LowestApart, IsSame, IsApart, VerdictList, same, apart, AlignsAll}
 use Rattle.machine.specs.Meaning.Bounds.{StaysIn}
 use Rattle.machine.proofs.Pick.{after-step, picked-unique}
 use Rattle.machine.proofs.Pairs.{open-list-has-step}
@@ -47,8 +47,8 @@ module _ (m0 m1 : Machine) (Ok : ℕ → Type 0) (z : Sizes) where
   rounds-align r l (done q a) p i = a (run (step m0 m1) p r) (record { from = p; inside = i; arrives = ap (run (step m0 m1) p) (sym q) })
   rounds-align r l (more w g m f k) p i = rounds-align r (l ++ m) k p i
 
-  pub same-drives-all : (l : List ℕ) → IsSame m0 m1 Ok z l → (p : Pair) → In z p → Leads (step m0 m1) Ok (Alike m0 m1 Ok) p l
-  same-drives-all l s p i = record { allowed = rounds-allowed l [] (s .rounds) tt; ends = rounds-align l [] (s .rounds) p i }
+  pub same-drives-all : (l : List ℕ) → IsSame m0 m1 Ok z l → AlignsAll m0 m1 Ok z l
+  same-drives-all l s = record { drives = λ p i. record { allowed = rounds-allowed l [] (s .rounds) tt; ends = rounds-align l [] (s .rounds) p i } }
 
   pub apart-drives-none : (p : Pair) (l : List ℕ) → IsApart m0 m1 Ok z p l → (m : List ℕ) → Leads (step m0 m1) Ok (Alike m0 m1 Ok) p m → ⊥
   apart-drives-none p l a m w = a .lowest .apart (record { list = m; leads = w })

@@ -9,10 +9,9 @@ use Rattle.numbers.proofs.Order.{zero-or}
 use Rattle.numbers.proofs.Search.{Least, least}
 use Rattle.machine.specs.declared.Pair.{Pair}
 use Rattle.machine.specs.declared.Sizes.{Sizes}
-use Rattle.machine.specs.Meaning.Lists.{Leads}
 use Rattle.machine.specs.Meaning.Machine.{Machine, step, Alike, Alignable}
 use Rattle.machine.specs.Meaning.Tables.{pairs, number, In, Ok}
-use Rattle.machine.specs.Meaning.Verdict.{LowestApart, AllAlign, IsSame, VerdictList, same, apart}
+use Rattle.machine.specs.Meaning.Verdict.{LowestApart, AllAlign, IsSame, VerdictList, same, apart, AlignsAll}
 use Rattle.machine.specs.Working.Maps.{Complete}
 use Rattle.machine.specs.Working.Pairs.{pairAt, Closed}
 use Rattle.machine.proofs.Pairs.{alike-alignable}
@@ -26,7 +25,7 @@ module _ (m0 m1 : Machine) (z : Sizes) (closed : Closed m0 m1 z) where
   same-exists all = let r = rounds-exist m0 m1 z closed all [] tt in (r .0, record { all = all; rounds = r .1 })
 
   -- Theorem 1 of document 000
-  pub one-list-aligns-all : AllAlign m0 m1 (Ok z) z → (l : List ℕ) × ((p : Pair) → In z p → Leads (step m0 m1) (Ok z) (Alike m0 m1 (Ok z)) p l)
+  pub one-list-aligns-all : AllAlign m0 m1 (Ok z) z → (l : List ℕ) × AlignsAll m0 m1 (Ok z) z l
   one-list-aligns-all all = let s = same-exists all in (s .0, same-drives-all m0 m1 (Ok z) z (s .0) (s .1))
 
   -- every pair is alignable, or there is a lowest that is not

@@ -2,6 +2,7 @@
 ghost use Prim.Native.Nat.{ℕ, _+_, _*_, _<_, _≤_};
 ghost use lib.ListN.{length, getD};
 ghost use lib.Seq.{slice};
+ghost use Rattle.memory.specs.Meaning.Slices.{atEntry};
 ghost use Rattle.machine.specs.Meaning.Lists.{run};
 ghost use Rattle.marks.specs.Working.{nextOf, Leading, Successors};
 
@@ -19,7 +20,7 @@ pub fn spread(
     requires { ⌜ from ≤ to ⌝ }
     requires { ⌜ to ≤ length (now list) ⌝ }
     requires { ⌜ ((i : ℕ) → from ≤ i → i < to → getD (now list) i 0 < vectors) ⌝ }
-    ensures { λ r. ⌜ Successors (λ s. run (nextOf vectors (now (next .entry))) s (slice from to (now (list .entry)))) states marks r ⌝ }
+    ensures { λ r. ⌜ Successors (λ s. run (nextOf vectors (atEntry next)) s (slice from to (atEntry list))) states marks r ⌝ }
 {
     let mut current = marks;
     let mut i = from;
@@ -42,7 +43,7 @@ fn successors(
 ) -> [bool; 128]
     requires { ⌜ Leading states vectors (now next) ⌝ }
     requires { ⌜ v < vectors ⌝ }
-    ensures { λ r. ⌜ Successors (λ s. getD (now (next .entry)) (s * vectors + v) 0) states marks r ⌝ }
+    ensures { λ r. ⌜ Successors (λ s. getD (atEntry next) (s * vectors + v) 0) states marks r ⌝ }
 {
     let mut out = [false; 128];
     let mut s = 0;

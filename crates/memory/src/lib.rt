@@ -1,15 +1,14 @@
 // Slices that a caller lends, and the numbers by which a call is turned away.
 ghost use mathlib.Core.Path.{_≡_};
 ghost use Prim.Native.Nat.{_<_, min};
-ghost use lib.ListN.{length};
-ghost use Rattle.memory.specs.Meaning.Slices.{Cleared};
+ghost use Rattle.memory.specs.Meaning.Slices.{lengthAtEntry, atExit, Cleared};
 ghost use Rattle.memory.specs.Meaning.Orders.{tableOrder};
 ghost use Rattle.memory.specs.Meaning.Refusals.{earlierNumber};
 ghost use Rattle.memory.specs.Working.Lowest.{placeIn};
 
 // Every byte becomes 0.
 pub fn clear_bytes(bytes: &mut [u8])
-    ensures { λ _. ⌜ Cleared (length (now (bytes .entry))) (now (bytes .exit)) ⌝ }
+    ensures { λ _. ⌜ Cleared (lengthAtEntry bytes) (atExit bytes) ⌝ }
 {
     let mut i = 0;
     while i < bytes.len() {
@@ -20,7 +19,7 @@ pub fn clear_bytes(bytes: &mut [u8])
 
 // Every number becomes 0.
 pub fn clear_numbers(numbers: &mut [u16])
-    ensures { λ _. ⌜ Cleared (length (now (numbers .entry))) (now (numbers .exit)) ⌝ }
+    ensures { λ _. ⌜ Cleared (lengthAtEntry numbers) (atExit numbers) ⌝ }
 {
     let mut i = 0;
     while i < numbers.len() {
@@ -31,8 +30,8 @@ pub fn clear_numbers(numbers: &mut [u16])
 
 // Both scratch slices, one of bytes and one of numbers, become 0 throughout.
 pub fn clear_scratch(depth: &mut [u8], reach: &mut [u16])
-    ensures { λ _. ⌜ Cleared (length (now (depth .entry))) (now (depth .exit)) ⌝ }
-    ensures { λ _. ⌜ Cleared (length (now (reach .entry))) (now (reach .exit)) ⌝ }
+    ensures { λ _. ⌜ Cleared (lengthAtEntry depth) (atExit depth) ⌝ }
+    ensures { λ _. ⌜ Cleared (lengthAtEntry reach) (atExit reach) ⌝ }
 {
     clear_bytes(depth);
     clear_numbers(reach);
@@ -40,9 +39,9 @@ pub fn clear_scratch(depth: &mut [u8], reach: &mut [u16])
 
 // The three table slices of a design become 0 throughout.
 pub fn clear_table(next: &mut [u8], out: &mut [u8], seen: &mut [u8])
-    ensures { λ _. ⌜ Cleared (length (now (next .entry))) (now (next .exit)) ⌝ }
-    ensures { λ _. ⌜ Cleared (length (now (out .entry))) (now (out .exit)) ⌝ }
-    ensures { λ _. ⌜ Cleared (length (now (seen .entry))) (now (seen .exit)) ⌝ }
+    ensures { λ _. ⌜ Cleared (lengthAtEntry next) (atExit next) ⌝ }
+    ensures { λ _. ⌜ Cleared (lengthAtEntry out) (atExit out) ⌝ }
+    ensures { λ _. ⌜ Cleared (lengthAtEntry seen) (atExit seen) ⌝ }
 {
     clear_bytes(next);
     clear_bytes(out);

@@ -1,6 +1,7 @@
 // Netlists: gates, cells and designs.
 ghost use mathlib.Core.Path.{_≡_};
 ghost use lib.ListN.{getD};
+ghost use Rattle.memory.specs.Meaning.Slices.{atEntry};
 ghost use Rattle.netlist.specs.Meaning.Gates.{kindOf, firstOf, secondOf};
 use limits::Image;
 
@@ -37,7 +38,7 @@ pub struct Design {
 
 // The net number at a place of a list, 0 past its end.
 pub fn net_at(nets: &[u16], k: usize) -> usize
-    ensures { λ r. ⌜ r ≡ getD (now (nets .entry)) k 0 ⌝ }
+    ensures { λ r. ⌜ r ≡ getD (atEntry nets) k 0 ⌝ }
 {
     if nets.len() <= k {
         return 0;

@@ -1,10 +1,9 @@
 // What a map, and a call for one pair, does first: it takes the lengths of the slices that it is lent, looks for what turns it away, and
 // clears them.
-ghost use Prim.Native.Nat.{min};
-ghost use lib.ListN.{length};
 ghost use Rattle.memory.specs.Meaning.Refusals.{FirstOrNone};
+ghost use Rattle.memory.specs.Meaning.Slices.{atEntry};
 ghost use Rattle.machine.specs.Meaning.Faults.{VectorsFault, StateFault};
-ghost use Rattle.machine.specs.Meaning.Lent.{lentOf, leftOf};
+ghost use Rattle.machine.specs.Meaning.Lent.{lengthsAtEntry, scratchOf, roomOf, leftAtExit};
 ghost use Rattle.table_faults.specs.Working.{ForTables};
 ghost use Rattle.opening.specs.Working.{Emptied};
 use machine::Pair;
@@ -21,8 +20,9 @@ pub fn begin_map(
     reach: &mut [u16],
     mark: &mut [u8],
 ) -> u8
-    ensures { λ r. ⌜ ForTables sizes (now («old_next» .entry)) (now («new_next» .entry)) «old_shown» «new_shown» (λ t. FirstOrNone (VectorsFault t (min (length (now (mark .entry))) (min (length (now (depth .entry))) (length (now (reach .entry)))))) r) ⌝ }
-    ensures { λ r. ⌜ Emptied (lentOf (length (now (depth .entry))) (length (now (reach .entry))) (length (now (mark .entry)))) (leftOf (now (depth .exit)) (now (reach .exit)) (now (mark .exit))) ⌝ }
+    ensures { λ r. ⌜ ForTables sizes (atEntry «old_next») (atEntry «new_next») «old_shown» «new_shown»
+        (λ t. FirstOrNone (VectorsFault t (roomOf (lengthsAtEntry depth reach mark))) r) ⌝ }
+    ensures { λ r. ⌜ Emptied (lengthsAtEntry depth reach mark) (leftAtExit depth reach mark) ⌝ }
 {
     let room = memory::shorter(mark.len(), memory::shorter(depth.len(), reach.len()));
     let n = table_faults::vectors_fault(old_next, new_next, sizes, old_shown, new_shown, room);
@@ -42,8 +42,9 @@ pub fn begin_pair(
     reach: &mut [u16],
     list: &mut [u8],
 ) -> u8
-    ensures { λ r. ⌜ ForTables sizes (now («old_next» .entry)) (now («new_next» .entry)) «old_shown» «new_shown» (λ t. FirstOrNone (StateFault t (min (length (now (depth .entry))) (length (now (reach .entry)))) pair) r) ⌝ }
-    ensures { λ r. ⌜ Emptied (lentOf (length (now (depth .entry))) (length (now (reach .entry))) (length (now (list .entry)))) (leftOf (now (depth .exit)) (now (reach .exit)) (now (list .exit))) ⌝ }
+    ensures { λ r. ⌜ ForTables sizes (atEntry «old_next») (atEntry «new_next») «old_shown» «new_shown»
+        (λ t. FirstOrNone (StateFault t (scratchOf (lengthsAtEntry depth reach list)) pair) r) ⌝ }
+    ensures { λ r. ⌜ Emptied (lengthsAtEntry depth reach list) (leftAtExit depth reach list) ⌝ }
 {
     let room = memory::shorter(depth.len(), reach.len());
     let n = pair_fault(old_next, new_next, sizes, old_shown, new_shown, pair, room);
@@ -53,7 +54,7 @@ pub fn begin_pair(
 
 // Every lent slice becomes 0 throughout.
 fn clear_lent(depth: &mut [u8], reach: &mut [u16], written: &mut [u8])
-    ensures { λ _. ⌜ Emptied (lentOf (length (now (depth .entry))) (length (now (reach .entry))) (length (now (written .entry)))) (leftOf (now (depth .exit)) (now (reach .exit)) (now (written .exit))) ⌝ }
+    ensures { λ _. ⌜ Emptied (lengthsAtEntry depth reach written) (leftAtExit depth reach written) ⌝ }
 {
     memory::clear_scratch(depth, reach);
     memory::clear_bytes(written);
@@ -69,7 +70,7 @@ fn pair_fault(
     pair: Pair,
     room: usize,
 ) -> u8
-    ensures { λ r. ⌜ ForTables sizes (now («old_next» .entry)) (now («new_next» .entry)) «old_shown» «new_shown» (λ t. FirstOrNone (StateFault t room pair) r) ⌝ }
+    ensures { λ r. ⌜ ForTables sizes (atEntry «old_next») (atEntry «new_next») «old_shown» «new_shown» (λ t. FirstOrNone (StateFault t room pair) r) ⌝ }
 {
     let n = table_faults::call_fault(old_next, new_next, sizes, old_shown, new_shown, room);
     if n != 0 {

@@ -7,7 +7,7 @@ ghost use mathlib.Core.Bool.{true, false};
 ghost use Prim.Native.Nat.{_+_, _-_, _<_};
 ghost use lib.ListN.{getD};
 ghost use Rattle.memory.specs.Meaning.Refusals.{FirstOrNone};
-ghost use Rattle.memory.specs.Meaning.Slices.{Zero};
+ghost use Rattle.memory.specs.Meaning.Slices.{atEntry, Zero};
 ghost use Rattle.netlist.specs.Meaning.Gates.{firstOf, secondOf};
 ghost use Rattle.limits.specs.Meaning.Limits.{mostCells};
 ghost use Rattle.netlist.specs.Meaning.Faults.{DesignFault};
@@ -105,7 +105,7 @@ fn next_ready(d: Design, marks: [bool; Image::MOST_CELLS]) -> usize
 
 fn ready_gate(base: usize, marks: &[bool; Image::MOST_CELLS], g: Gate) -> bool
     requires { ⌜ (firstOf g < base + mostCells) × (secondOf g < base + mostCells) ⌝ }
-    ensures { λ r. ⌜ r ≡ readyGate base (λ j. getD (now (marks .entry)) j false) g ⌝ }
+    ensures { λ r. ⌜ r ≡ readyGate base (λ j. getD (atEntry marks) j false) g ⌝ }
 {
     let one = ready(base, marks, netlist::first_of(g));
     let two = ready(base, marks, netlist::second_of(g));
@@ -115,7 +115,7 @@ fn ready_gate(base: usize, marks: &[bool; Image::MOST_CELLS], g: Gate) -> bool
 // Whether a net is driven by no cell, or by a marked one.
 fn ready(base: usize, marks: &[bool; Image::MOST_CELLS], net: u16) -> bool
     requires { ⌜ net < base + mostCells ⌝ }
-    ensures { λ r. ⌜ r ≡ readyNet base (λ j. getD (now (marks .entry)) j false) net ⌝ }
+    ensures { λ r. ⌜ r ≡ readyNet base (λ j. getD (atEntry marks) j false) net ⌝ }
 {
     let n = net as usize;
     if n < base {

@@ -3,13 +3,14 @@ ghost use Prim.Native.Nat.{_+_, _<_, _≤_};
 ghost use mathlib.Core.Path.{_≡_};
 ghost use mathlib.Core.List.{_++_};
 ghost use lib.ListN.{length};
+ghost use Rattle.memory.specs.Meaning.Slices.{atEntry, lengthAtEntry, atExit};
 ghost use Rattle.pieces.specs.Meaning.Pieces.{spelled, newline};
 ghost use Rattle.pieces.specs.Working.Put.{Put};
 
 // A word.
 pub fn put_word(word: &[u8], text: &mut [u8], at: usize) -> usize
     requires { ⌜ at + length (now word) ≤ length (now text) ⌝ }
-    ensures { λ r. ⌜ Put (length (now (word .entry))) (now (word .entry)) at (now (text .entry)) (now (text .exit)) r ⌝ }
+    ensures { λ r. ⌜ Put (lengthAtEntry word) (atEntry word) at (atEntry text) (atExit text) r ⌝ }
 {
     let mut i = 0;
     while i < word.len() {
@@ -22,7 +23,7 @@ pub fn put_word(word: &[u8], text: &mut [u8], at: usize) -> usize
 // A number, of at most 20 digits.
 pub fn put_number(n: usize, text: &mut [u8], at: usize) -> usize
     requires { ⌜ at + 20 ≤ length (now text) ⌝ }
-    ensures { λ r. ⌜ Put 20 (spelled n) at (now (text .entry)) (now (text .exit)) r ⌝ }
+    ensures { λ r. ⌜ Put 20 (spelled n) at (atEntry text) (atExit text) r ⌝ }
 {
     let mut digits = [0u8; 20];
     let count = io::decimal(n as u64, &mut digits);
@@ -32,7 +33,7 @@ pub fn put_number(n: usize, text: &mut [u8], at: usize) -> usize
 // A number behind a word.
 pub fn put_field(word: &[u8], n: usize, text: &mut [u8], at: usize) -> usize
     requires { ⌜ at + (length (now word) + 20) ≤ length (now text) ⌝ }
-    ensures { λ r. ⌜ Put (length (now (word .entry)) + 20) (now (word .entry) ++ spelled n) at (now (text .entry)) (now (text .exit)) r ⌝ }
+    ensures { λ r. ⌜ Put (lengthAtEntry word + 20) (atEntry word ++ spelled n) at (atEntry text) (atExit text) r ⌝ }
 {
     let end = put_word(word, text, at);
     put_number(n, text, end)
@@ -41,7 +42,7 @@ pub fn put_field(word: &[u8], n: usize, text: &mut [u8], at: usize) -> usize
 // A number behind a word, at the end of a line.
 pub fn put_last_field(word: &[u8], n: usize, text: &mut [u8], at: usize) -> usize
     requires { ⌜ at + (length (now word) + 21) ≤ length (now text) ⌝ }
-    ensures { λ r. ⌜ Put (length (now (word .entry)) + 21) (now (word .entry) ++ spelled n ++ newline) at (now (text .entry)) (now (text .exit)) r ⌝ }
+    ensures { λ r. ⌜ Put (lengthAtEntry word + 21) (atEntry word ++ spelled n ++ newline) at (atEntry text) (atExit text) r ⌝ }
 {
     let end = put_field(word, n, text, at);
     put_word(b"\n", text, end)

@@ -3,6 +3,7 @@
 ghost use mathlib.Core.Path.{_≡_};
 ghost use Prim.Native.Nat.{_<_, _≤_};
 ghost use lib.ListN.{length, getD, take};
+ghost use Rattle.memory.specs.Meaning.Slices.{atEntry};
 ghost use Rattle.machine.specs.declared.Prior.{Prior};
 ghost use Rattle.machine.specs.Meaning.Pick.{after};
 ghost use Rattle.machine.specs.Meaning.Tables.{pairs, at, In, Ok};
@@ -27,7 +28,7 @@ pub fn place_of(s: usize, v: usize, n: usize, m: usize) -> usize
 // The byte at a place, as a number.
 pub fn byte_at(t: &[u8], i: usize) -> usize
     requires { ⌜ i < length (now t) ⌝ }
-    ensures { λ r. ⌜ r ≡ getD (now (t .entry)) i 0 ⌝ }
+    ensures { λ r. ⌜ r ≡ getD (atEntry t) i 0 ⌝ }
 {
     t[i] as usize
 }
@@ -35,7 +36,7 @@ pub fn byte_at(t: &[u8], i: usize) -> usize
 // The 16-bit number at a place, as a number.
 pub fn number_at(d: &[u16], i: usize) -> usize
     requires { ⌜ i < length (now d) ⌝ }
-    ensures { λ r. ⌜ r ≡ getD (now (d .entry)) i 0 ⌝ }
+    ensures { λ r. ⌜ r ≡ getD (atEntry d) i 0 ⌝ }
 {
     d[i] as usize
 }
@@ -80,7 +81,7 @@ pub fn next(old_next: &[u8], new_next: &[u8], sizes: Sizes, p: Pair, v: usize) -
     requires { ⌜ Nexts sizes (now «old_next») (now «new_next») ⌝ }
     requires { ⌜ In sizes p ⌝ }
     requires { ⌜ v < sizes .vectors ⌝ }
-    ensures { λ r. ⌜ (r ≡ move sizes (now («old_next» .entry)) (now («new_next» .entry)) p v) × In sizes r ⌝ }
+    ensures { λ r. ⌜ (r ≡ move sizes (atEntry «old_next») (atEntry «new_next») p v) × In sizes r ⌝ }
 {
     let i = place_of(p.old, v, sizes.old, sizes.vectors);
     let j = place_of(p.new, v, sizes.new, sizes.vectors);
@@ -94,7 +95,7 @@ pub fn map_at(sizes: Sizes, map: &[u16], p: Pair) -> usize
     requires { ⌜ Few sizes ⌝ }
     requires { ⌜ In sizes p ⌝ }
     requires { ⌜ pairs sizes ≤ length (now map) ⌝ }
-    ensures { λ r. ⌜ r ≡ at sizes (now (map .entry)) p ⌝ }
+    ensures { λ r. ⌜ r ≡ at sizes (atEntry map) p ⌝ }
 {
     let i = place_of(p.old, p.new, sizes.old, sizes.new);
     number_at(map, i)
@@ -103,7 +104,7 @@ pub fn map_at(sizes: Sizes, map: &[u16], p: Pair) -> usize
 // What comes before entry n of a list that nothing comes before.
 pub fn prior_at(list: &[u8], n: usize) -> Prior
     requires { ⌜ n ≤ length (now list) ⌝ }
-    ensures { λ r. ⌜ r ≡ after Prior.Start (take n (now (list .entry))) ⌝ }
+    ensures { λ r. ⌜ r ≡ after Prior.Start (take n (atEntry list)) ⌝ }
 {
     if n == 0 {
         return Prior::Start;

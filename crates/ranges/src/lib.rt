@@ -2,6 +2,7 @@
 ghost use mathlib.Core.Path.{_≡_};
 ghost use Prim.Native.Nat.{ℕ, _+_, _<_, _≤_};
 ghost use lib.ListN.{getD};
+ghost use Rattle.memory.specs.Meaning.Slices.{atEntry};
 ghost use Rattle.memory.specs.Working.Tests.{Tells, Splits};
 ghost use Rattle.netlist.specs.Meaning.Faults.{DesignFault};
 ghost use Rattle.netlist.specs.Working.Sound.{Within, NetsBelow};
@@ -76,7 +77,7 @@ fn cell_net_over(d: Design, nets: usize) -> bool
 // Whether one of the first n numbers of a list is no net.
 pub fn listed_net_over(list: &[u16], n: usize, nets: usize) -> bool
     requires { ⌜ 0 < nets ⌝ }
-    ensures { λ r. ⌜ Splits r ((k : ℕ) × (k < n) × (nets ≤ getD (now (list .entry)) k 0)) ((k : ℕ) → k < n → getD (now (list .entry)) k 0 < nets) ⌝ }
+    ensures { λ r. ⌜ Splits r ((k : ℕ) × (k < n) × (nets ≤ getD (atEntry list) k 0)) ((k : ℕ) → k < n → getD (atEntry list) k 0 < nets) ⌝ }
 {
     let mut k = 0;
     while k < n {

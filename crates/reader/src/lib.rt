@@ -1,6 +1,7 @@
 // Bits and bit fields of an image, and the reader that knows its bytes and its bit position.
 ghost use mathlib.Core.Path.{_≡_};
 ghost use Prim.Native.Nat.{_^_, _<_, _≤_};
+ghost use Rattle.memory.specs.Meaning.Slices.{atEntry};
 ghost use Rattle.reader.specs.Meaning.Fields.{bitAt, fieldAt};
 ghost use Rattle.reader.specs.Working.Taking.{opened, taken, runAt};
 
@@ -16,7 +17,7 @@ pub struct Numbers {
 // Takes five fields one behind the other, from bit `at` on; a field of no bits is 0. Whoever calls this has plain parameters.
 pub fn run(image: &[u8], at: usize, a: usize, b: usize, c: usize, d: usize, e: usize) -> Numbers
     requires { ⌜ (at < 65472) × ((a ≤ 16) × ((b ≤ 16) × ((c ≤ 16) × ((d ≤ 16) × (e ≤ 16))))) ⌝ }
-    ensures { λ r. ⌜ r ≡ runAt (now (image .entry)) at a b c d e ⌝ }
+    ensures { λ r. ⌜ r ≡ runAt (atEntry image) at a b c d e ⌝ }
 {
     let one = open(image, at).take(a);
     let two = one.take(b);
@@ -32,7 +33,8 @@ pub fn run(image: &[u8], at: usize, a: usize, b: usize, c: usize, d: usize, e: u
     }
 }
 
-// An image, a bit position in it, and the number of the field that was taken last.
+// An image, a bit position in it, and the number of the field that was taken last: `take` hands back one value, by which the next field is
+// taken.
 pub struct BitReader<'a> {
     pub image: &'a [u8],
     pub at: usize,
@@ -67,7 +69,7 @@ pub fn open<'a>(image: &'a [u8], at: usize) -> BitReader<'a>
 // The number that `width` bits of a slice spell.
 fn spell(image: &[u8], at: usize, width: usize) -> u16
     requires { ⌜ (at < 65536) × (width ≤ 16) ⌝ }
-    ensures { λ r. ⌜ (r ≡ fieldAt (now (image .entry)) at width) × (r < 2 ^ width) ⌝ }
+    ensures { λ r. ⌜ (r ≡ fieldAt (atEntry image) at width) × (r < 2 ^ width) ⌝ }
 {
     let mut n: u16 = 0;
     let mut k: usize = 0;
@@ -80,7 +82,7 @@ fn spell(image: &[u8], at: usize, width: usize) -> u16
 
 // Bit i of the image, 0 past its end.
 fn bit(image: &[u8], i: usize) -> u16
-    ensures { λ r. ⌜ r ≡ bitAt (now (image .entry)) i ⌝ }
+    ensures { λ r. ⌜ r ≡ bitAt (atEntry image) i ⌝ }
 {
     let k = i / 8;
     if k < image.len() {

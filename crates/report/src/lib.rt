@@ -4,11 +4,10 @@ mod lines;
 mod steps;
 
 ghost use Prim.Native.Nat.{_+_, _*_, _≤_};
-ghost use mathlib.Core.List.{[]};
 ghost use lib.ListN.{length, take};
-ghost use Rattle.machine.specs.Meaning.Tables.{bothTables};
+ghost use Rattle.memory.specs.Meaning.Slices.{atEntry, atExit};
 ghost use Rattle.pieces.specs.Meaning.Pieces.{Printed};
-ghost use Rattle.report.specs.Meaning.Text.{refusalText, sameText, apartIn};
+ghost use Rattle.report.specs.Meaning.Text.{refusalText, sameText, shownTables, apartIn};
 ghost use Rattle.report.specs.Working.Tracing.{Small};
 use machine::Pair;
 use machine::Sizes;
@@ -34,7 +33,7 @@ pub enum Side {
 // A refusal: its number, and nothing else.
 pub fn put_refusal(who: Side, number: u8, text: &mut [u8]) -> usize
     requires { ⌜ 40 ≤ length (now text) ⌝ }
-    ensures { λ r. ⌜ Printed (refusalText who number) (now (text .exit)) r ⌝ }
+    ensures { λ r. ⌜ Printed (refusalText who number) (atExit text) r ⌝ }
 {
     let n = pieces::wide(number);
     match who {
@@ -48,7 +47,7 @@ pub fn put_refusal(who: Side, number: u8, text: &mut [u8]) -> usize
 pub fn put_same(facts: Facts, list: &[u8], n: usize, text: &mut [u8]) -> usize
     requires { ⌜ n ≤ length (now list) ⌝ }
     requires { ⌜ 400 + 12 * n ≤ length (now text) ⌝ }
-    ensures { λ r. ⌜ Printed (sameText facts (take n (now (list .entry)))) (now (text .exit)) r ⌝ }
+    ensures { λ r. ⌜ Printed (sameText facts (take n (atEntry list))) (atExit text) r ⌝ }
 {
     let head = lines::put_head(facts, text);
     let at = pieces::put_last_field(b"SAME ", n, text, head);
@@ -71,7 +70,9 @@ pub fn put_apart(
     requires { ⌜ Small sizes p ⌝ }
     requires { ⌜ n ≤ length (now list) ⌝ }
     requires { ⌜ 400 + 12 * n ≤ length (now text) ⌝ }
-    ensures { λ r. ⌜ Printed (apartIn (bothTables sizes (now («old_next» .entry)) (now («old_out» .entry)) [] (now («new_next» .entry)) (now («new_out» .entry)) []) facts p (take n (now (list .entry)))) (now (text .exit)) r ⌝ }
+    ensures { λ r. ⌜ Printed
+        (apartIn (shownTables sizes (atEntry «old_next») (atEntry «old_out») (atEntry «new_next») (atEntry «new_out»)) facts p (take n (atEntry list)))
+        (atExit text) r ⌝ }
 {
     let head = lines::put_head(facts, text);
     let at = lines::put_pair(p, n, text, head);

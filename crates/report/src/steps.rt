@@ -1,13 +1,13 @@
 // The steps of a trace over the tables of both designs.
 ghost use Prim.Native.Nat.{_+_, _*_, _<_, _≤_};
 ghost use mathlib.Core.Path.{_≡_};
-ghost use mathlib.Core.List.{[]};
 ghost use lib.ListN.{length, take};
-ghost use Rattle.machine.specs.Meaning.Tables.{entry, bothTables};
+ghost use Rattle.memory.specs.Meaning.Slices.{atEntry, atExit};
+ghost use Rattle.machine.specs.Meaning.Tables.{entry};
 ghost use Rattle.places.specs.Working.{move};
-ghost use Rattle.report.specs.Working.Tracing.{shownIn};
 ghost use Rattle.pieces.specs.Working.Put.{Put};
-ghost use Rattle.report.specs.Working.Tracing.{Small};
+ghost use Rattle.report.specs.Meaning.Text.{shownTables};
+ghost use Rattle.report.specs.Working.Tracing.{shownIn, Small};
 use crate::lines;
 use machine::Pair;
 use machine::Sizes;
@@ -28,7 +28,9 @@ pub fn put_steps(
     requires { ⌜ Small sizes p ⌝ }
     requires { ⌜ n ≤ length (now list) ⌝ }
     requires { ⌜ at + (12 * n + 51) ≤ length (now text) ⌝ }
-    ensures { λ r. ⌜ Put (12 * n) (shownIn (bothTables sizes (now («old_next» .entry)) (now («old_out» .entry)) [] (now («new_next» .entry)) (now («new_out» .entry)) []) p (take n (now (list .entry)))) at (now (text .entry)) (now (text .exit)) r ⌝ }
+    ensures { λ r. ⌜ Put (12 * n)
+        (shownIn (shownTables sizes (atEntry «old_next») (atEntry «old_out») (atEntry «new_next») (atEntry «new_out»)) p (take n (atEntry list)))
+        at (atEntry text) (atExit text) r ⌝ }
 {
     let mut q = p;
     let mut end = at;
@@ -49,7 +51,7 @@ pub fn put_steps(
 fn next_pair(old_next: &[u8], new_next: &[u8], sizes: Sizes, p: Pair, vector: usize) -> Pair
     requires { ⌜ Small sizes p ⌝ }
     requires { ⌜ vector < 256 ⌝ }
-    ensures { λ r. ⌜ (r ≡ move sizes (now («old_next» .entry)) (now («new_next» .entry)) p vector) × Small sizes r ⌝ }
+    ensures { λ r. ⌜ (r ≡ move sizes (atEntry «old_next») (atEntry «new_next») p vector) × Small sizes r ⌝ }
 {
     let old = entry_at(old_next, sizes, p.old, vector);
     let new = entry_at(new_next, sizes, p.new, vector);
@@ -61,7 +63,7 @@ fn entry_at(table: &[u8], sizes: Sizes, state: usize, vector: usize) -> usize
     requires { ⌜ sizes .vectors ≤ 64 ⌝ }
     requires { ⌜ state < 256 ⌝ }
     requires { ⌜ vector < 256 ⌝ }
-    ensures { λ r. ⌜ (r ≡ entry sizes (now (table .entry)) state vector) × (r < 256) ⌝ }
+    ensures { λ r. ⌜ (r ≡ entry sizes (atEntry table) state vector) × (r < 256) ⌝ }
 {
     let i = state * sizes.vectors + vector;
     if table.len() <= i {

@@ -1,15 +1,15 @@
 -- What a search makes of flags: a map that is right.
-use mathlib.Core.Path.{_≡_}
 use mathlib.Core.List.{List}
 use Prim.Native.Nat.{ℕ, _<_, _≤_}
 use native.Mathlib.Omega.{arith}
 use lib.ListN.{getD}
 use Rattle.machine.specs.declared.Pair.{Pair}
 use Rattle.machine.specs.declared.Sizes.{Sizes}
-use Rattle.machine.specs.Meaning.Tables.{Tables, pairs, number, at, In, Ok, Flag, holds, fails, AlikeIn}
+use Rattle.machine.specs.Meaning.Tables.{Tables, pairs, number, at, In, Ok, Flag, AlikeIn}
 use Rattle.machine.specs.Working.Pairs.{pairAt, DiffersIn, stepIn}
 use Rattle.machine.specs.Working.Beside.{WithSome}
 use Rattle.machine.proofs.Lists.{complete-there, still-first-there}
+use Rattle.machine.proofs.Flags.{flag-one, flag-holds, flag-is, flag-there}
 use Rattle.flags.specs.Working.{Flagged, DiffersAt}
 use Rattle.flags.proofs.Machines.{unlike-of, different-of}
 use Rattle.places.specs.Working.{Ones, Good, MapFor}
@@ -17,22 +17,6 @@ use Rattle.search.specs.Working.{Searched}
 use Rattle.machine.proofs.Numbers.{number-in, pair-number, pairAt-in, at-pair}
 use Rattle.places.proofs.Right.{inside, alike-of-zero, zero-of-alike}
 use Rattle.seek.specs.Working.Steps.{Begun, MapOf, ToZeros}
-
-pub flag-one : {P : Type 0} {x : ℕ} → Flag P x → x ≤ 1
-flag-one (holds e p) = omega arith
-flag-one (fails e n) = omega arith
-
-pub flag-holds : {P : Type 0} {x : ℕ} → Flag P x → x ≡ 1 → P
-flag-holds (holds e p) q = p
-flag-holds (fails e n) q = absurd (omega arith)
-
-pub flag-is : {P : Type 0} {x : ℕ} → Flag P x → P → x ≡ 1
-flag-is (holds e p) q = e
-flag-is (fails e n) q = absurd (n q)
-
-pub flag-there : {P Q : Type 0} {x : ℕ} → (P → Q) → (Q → P) → Flag P x → Flag Q x
-flag-there f g (holds e p) = holds e (f p)
-flag-there f g (fails e n) = fails e (λ q. n (g q))
 
 module _ (t : Tables) (g : Good t) where
   abbrev z : Sizes
@@ -46,7 +30,7 @@ module _ (t : Tables) (g : Good t) where
   }
     where
       there : (p : Pair) → In z p → Ones z d₀ p → Goal p
-      there p i e = flag-holds (f p i) e
+      there p i e = flag-holds (f p i) (omega arith)
 
       back : (p : Pair) → In z p → Goal p → Ones z d₀ p
       back p i o = flag-is (f p i) o

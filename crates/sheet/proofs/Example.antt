@@ -12,15 +12,14 @@ use Rattle.memory.specs.Meaning.Refusals.{Free}
 use Rattle.memory.specs.Meaning.Slices.{ZeroFrom}
 use Rattle.memory.proofs.Computed.{passes}
 use Rattle.netlist.specs.declared.Design.{Design}
-use Rattle.netlist.specs.Meaning.Nets.{vectorsOf}
 use Rattle.netlist.specs.Meaning.Faults.{Accepted}
 use Rattle.reader.specs.Meaning.Fields.{bitAt, fieldAt}
 use Rattle.format.specs.Meaning.Format.{decoded}
 use Rattle.format.specs.Meaning.Faults.{ImageFault, HeaderFault}
+use Rattle.format.specs.Meaning.Front.{frontIn, restIn}
 use Rattle.image.proofs.Accepted.{image-accepted}
 use Rattle.machine.specs.declared.Pair.{Pair}
 use Rattle.machine.specs.declared.Sizes.{Sizes}
-use Rattle.machine.specs.Meaning.Allowed.{everyVector}
 use Rattle.machine.specs.Meaning.Machine.{Alike, Alignable}
 use Rattle.machine.specs.Meaning.Tables.{pairs, In, Ok, Flag, holds, fails}
 use Rattle.machine.specs.Meaning.Counts.{Counts}
@@ -29,14 +28,14 @@ use Rattle.machine.proofs.Allowed.{ones-right}
 use Rattle.machine.proofs.Verdict.{written-unique}
 use Rattle.verdict.specs.Meaning.Decision.{Decided}
 use Rattle.verdict.specs.Meaning.Decision as D
-use Rattle.compare.specs.Meaning.Designs.{machineOf, sizesOf}
+use Rattle.compare.specs.Meaning.Designs.{machineOf, sizesOf, allVectors}
 use Rattle.compare.specs.Meaning.Comparing.{CompareFault}
 use Rattle.compare.specs.Meaning.Demand.{Enough}
 use Rattle.compare.proofs.Agreement.{vectors-some}
 use Rattle.compare.proofs.Demand.{no-fault}
 use Rattle.compare.proofs.Watched.{nothing-watchable}
 use Rattle.report.proofs.Examples.{facts, same-example}
-use Rattle.align_report.specs.Meaning.Report.{oldBytes, newBytes, FactsOf, AnswersDesigns, Answers, ownTables, ownSlices}
+use Rattle.align_report.specs.Meaning.Report.{FactsOf, AnswersDesigns, Answers, ownTables, ownSlices}
 use Rattle.align_report.proofs.Determined.{closed}
 use Rattle.align_report.proofs.Refusals.{table-most, pairs-most}
 use Rattle.sheet.specs.Meaning.Sheet.{imageP, imageQ, FoundSame}
@@ -54,7 +53,7 @@ abbrev b : Design
 b = decoded imageQ
 
 abbrev every : ℕ
-every = everyVector (vectorsOf a)
+every = allVectors a
 
 abbrev zeros : ℕ → List ℕ
 zeros n = replicate n 0
@@ -138,11 +137,11 @@ compared =
       room = enough;
     })
 
-old-bytes : oldBytes (imageP ++ imageQ) ≡ imageP
+old-bytes : frontIn (imageP ++ imageQ) ≡ imageP
 unfolding fieldAt horner bitAt
 old-bytes = refl
 
-new-bytes : newBytes (imageP ++ imageQ) ≡ imageQ
+new-bytes : restIn (imageP ++ imageQ) ≡ imageQ
 unfolding fieldAt horner bitAt
 new-bytes = refl
 

@@ -1,7 +1,8 @@
 // One clock of a design, and the tables of all its clocks.
 mod tables;
 
-ghost use Rattle.memory.specs.Meaning.Tables.{tableOf, lengthsOf};
+ghost use Rattle.memory.specs.Meaning.Slices.{atEntry};
+ghost use Rattle.memory.specs.Meaning.Tables.{tableAtExit, tableLengthsAtEntry};
 ghost use Rattle.simulator.specs.Meaning.Clock.{Clocks};
 ghost use Rattle.simulator.specs.Meaning.Tables.{Tabulates, TabulatesBoth};
 use netlist::Design;
@@ -45,7 +46,7 @@ pub fn tabulate(
     out: &mut [u8],
     seen: &mut [u8],
 ) -> Tabulated
-    ensures { λ r. ⌜ Tabulates d (now (watch .entry)) (lengthsOf (tableOf (now (next .entry)) (now (out .entry)) (now (seen .entry)))) r (tableOf (now (next .exit)) (now (out .exit)) (now (seen .exit))) ⌝ }
+    ensures { λ r. ⌜ Tabulates d (atEntry watch) (tableLengthsAtEntry next out seen) r (tableAtExit next out seen) ⌝ }
 {
     let room = memory::shorter(next.len(), memory::shorter(out.len(), seen.len()));
     let prepared = tables::prepare(d, watch, room);
@@ -82,7 +83,9 @@ pub fn tabulate_both(
     new_out: &mut [u8],
     new_seen: &mut [u8],
 ) -> TabulatedBoth
-    ensures { λ r. ⌜ TabulatesBoth old new (now («old_watch» .entry)) (now («new_watch» .entry)) (lengthsOf (tableOf (now («old_next» .entry)) (now («old_out» .entry)) (now («old_seen» .entry)))) (lengthsOf (tableOf (now («new_next» .entry)) (now («new_out» .entry)) (now («new_seen» .entry)))) r (tableOf (now («old_next» .exit)) (now («old_out» .exit)) (now («old_seen» .exit))) (tableOf (now («new_next» .exit)) (now («new_out» .exit)) (now («new_seen» .exit))) ⌝ }
+    ensures { λ r. ⌜ TabulatesBoth old new (atEntry «old_watch») (atEntry «new_watch»)
+        (tableLengthsAtEntry «old_next» «old_out» «old_seen») (tableLengthsAtEntry «new_next» «new_out» «new_seen») r
+        (tableAtExit «old_next» «old_out» «old_seen») (tableAtExit «new_next» «new_out» «new_seen») ⌝ }
 {
     let old_room = memory::shorter(
         old_next.len(),

@@ -3,7 +3,8 @@ ghost use mathlib.Core.Path.{_≡_};
 ghost use mathlib.Core.List.{List};
 ghost use Prim.Native.Nat.{ℕ, _≤_};
 ghost use Rattle.memory.specs.Meaning.Refusals.{FirstOrNone};
-ghost use Rattle.memory.specs.Meaning.Tables.{tableOf, lengthsOf, shortestOf, ZeroTable};
+ghost use Rattle.memory.specs.Meaning.Slices.{atEntry};
+ghost use Rattle.memory.specs.Meaning.Tables.{tableAtExit, tableNow, lengthsOf, tableLengthsAtEntry, shortestOf, ZeroTable};
 ghost use Rattle.netlist.specs.Working.Sound.{Sound};
 ghost use Rattle.simulator.specs.Meaning.Tables.{sizeOf, TableFault};
 ghost use Rattle.simulator.specs.Working.Filling.{DrawnFault, PairNumber, Fillable, FilledTables, Prepares, Writes};
@@ -20,7 +21,7 @@ pub struct Prepared {
 
 // The first number that applies to tabulating a design into slices of which the shortest has some room, or what filling them needs.
 pub(crate) fn prepare(d: Design, watch: &[u16], room: usize) -> Prepared
-    ensures { λ r. ⌜ Prepares d (now (watch .entry)) room (r .number) (r .plan .kept) (r .plan .cells) (r .watch .count) (r .watch .nets) ⌝ }
+    ensures { λ r. ⌜ Prepares d (atEntry watch) room (r .number) (r .plan .kept) (r .plan .cells) (r .watch .count) (r .watch .nets) ⌝ }
 {
     let plan = order::levelize(d);
     let taken = watched::take(d, watch);
@@ -80,8 +81,9 @@ pub(crate) fn write(
     out: &mut [u8],
     seen: &mut [u8],
 )
-    requires { ⌜ (number ≡ 0 → Fillable d (prepared .plan .kept) (prepared .plan .cells) (prepared .watch .count) (prepared .watch .nets) (shortestOf (lengthsOf (tableOf (now next) (now out) (now seen))))) ⌝ }
-    ensures { λ _. ⌜ Writes d (prepared .watch .count) (prepared .watch .nets) number (lengthsOf (tableOf (now (next .entry)) (now (out .entry)) (now (seen .entry)))) (tableOf (now (next .exit)) (now (out .exit)) (now (seen .exit))) ⌝ }
+    requires { ⌜ (number ≡ 0 → Fillable d (prepared .plan .kept) (prepared .plan .cells) (prepared .watch .count) (prepared .watch .nets)
+        (shortestOf (lengthsOf (tableNow next out seen)))) ⌝ }
+    ensures { λ _. ⌜ Writes d (prepared .watch .count) (prepared .watch .nets) number (tableLengthsAtEntry next out seen) (tableAtExit next out seen) ⌝ }
 {
     memory::clear_table(next, out, seen);
     if number == 0 {
@@ -93,9 +95,9 @@ pub(crate) fn write(
 
 // Every clock of a design, in cleared slices.
 fn fill(d: Design, plan: Plan, watch: Watch, next: &mut [u8], out: &mut [u8], seen: &mut [u8])
-    requires { ⌜ Fillable d (plan .kept) (plan .cells) (watch .count) (watch .nets) (shortestOf (lengthsOf (tableOf (now next) (now out) (now seen)))) ⌝ }
-    requires { ⌜ ZeroTable (tableOf (now next) (now out) (now seen)) ⌝ }
-    ensures { λ _. ⌜ FilledTables d (watch .count) (watch .nets) (lengthsOf (tableOf (now (next .entry)) (now (out .entry)) (now (seen .entry)))) (sizeOf d) (tableOf (now (next .exit)) (now (out .exit)) (now (seen .exit))) ⌝ }
+    requires { ⌜ Fillable d (plan .kept) (plan .cells) (watch .count) (watch .nets) (shortestOf (lengthsOf (tableNow next out seen))) ⌝ }
+    requires { ⌜ ZeroTable (tableNow next out seen) ⌝ }
+    ensures { λ _. ⌜ FilledTables d (watch .count) (watch .nets) (tableLengthsAtEntry next out seen) (sizeOf d) (tableAtExit next out seen) ⌝ }
 {
     let vectors = evaluator::power(d.inputs);
     let end = size(d);

@@ -3,6 +3,7 @@
 ghost use Prim.Native.Nat.{_≤_};
 ghost use mathlib.Core.Path.{_≡_};
 ghost use lib.ListN.{length};
+ghost use Rattle.memory.specs.Meaning.Slices.{atEntry, atExit};
 ghost use Rattle.io.specs.Counts.{Counts};
 ghost use Rattle.pieces.specs.Meaning.Pieces.{Printed};
 ghost use Rattle.streams.specs.Meaning.Input.{Within};
@@ -21,7 +22,7 @@ pub struct Output {
 
 // Reads standard input into a room, until the room is full or the input ends.
 pub fn read_input(room: &mut [u8]) -> Input
-    ensures { λ r. ⌜ Within r (now (room .exit)) ⌝ }
+    ensures { λ r. ⌜ Within r (atExit room) ⌝ }
 {
     let mut done = 0;
     while done < room.len() {
@@ -41,7 +42,7 @@ pub fn read_input(room: &mut [u8]) -> Input
 // Puts the words that nothing could be read into a text; they go to standard error.
 pub fn put_unread(words: &[u8], text: &mut [u8]) -> Output
     requires { ⌜ length (now words) ≤ length (now text) ⌝ }
-    ensures { λ r. ⌜ (r .stream ≡ 2) × (Printed (now (words .entry)) (now (text .exit)) (r .length)) ⌝ }
+    ensures { λ r. ⌜ (r .stream ≡ 2) × (Printed (atEntry words) (atExit text) (r .length)) ⌝ }
 {
     let length = pieces::put_word(words, text, 0);
     Output { stream: 2, length }

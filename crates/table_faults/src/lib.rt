@@ -4,6 +4,7 @@
 ghost use Prim.Native.Nat.{_*_, _≤_};
 ghost use lib.ListN.{length};
 ghost use Rattle.memory.specs.Meaning.Refusals.{FirstOrNone};
+ghost use Rattle.memory.specs.Meaning.Slices.{atEntry};
 ghost use Rattle.memory.specs.Working.Tests.{Splits, Tells};
 ghost use Rattle.machine.specs.Meaning.Allowed.{WrongAllowed};
 ghost use Rattle.machine.specs.Meaning.Faults.{OutOfRange, TooShort, LeadsOut, TablesFault, VectorsFault};
@@ -19,7 +20,7 @@ pub fn vectors_fault(
     new_shown: usize,
     room: usize,
 ) -> u8
-    ensures { λ r. ⌜ ForTables sizes (now («old_next» .entry)) (now («new_next» .entry)) «old_shown» «new_shown» (λ t. FirstOrNone (VectorsFault t room) r) ⌝ }
+    ensures { λ r. ⌜ ForTables sizes (atEntry «old_next») (atEntry «new_next») «old_shown» «new_shown» (λ t. FirstOrNone (VectorsFault t room) r) ⌝ }
 {
     let n = call_fault(old_next, new_next, sizes, old_shown, new_shown, room);
     if n != 0 {
@@ -56,7 +57,7 @@ pub fn call_fault(
     new_shown: usize,
     room: usize,
 ) -> u8
-    ensures { λ r. ⌜ ForTables sizes (now («old_next» .entry)) (now («new_next» .entry)) «old_shown» «new_shown» (λ t. FirstOrNone (TablesFault t room) r) ⌝ }
+    ensures { λ r. ⌜ ForTables sizes (atEntry «old_next») (atEntry «new_next») «old_shown» «new_shown» (λ t. FirstOrNone (TablesFault t room) r) ⌝ }
 {
     if out_of_range(sizes) {
         return 11;
@@ -108,7 +109,8 @@ fn too_short(
     room: usize,
 ) -> bool
     requires { ⌜ InRange sizes ⌝ }
-    ensures { λ r. ⌜ Splits r (ForTables sizes (now («old_next» .entry)) (now («new_next» .entry)) «old_shown» «new_shown» (λ t. TooShort t room)) (LongEnough sizes (now («old_next» .entry)) (now («new_next» .entry)) «old_shown» «new_shown» room) ⌝ }
+    ensures { λ r. ⌜ Splits r (ForTables sizes (atEntry «old_next») (atEntry «new_next») «old_shown» «new_shown» (λ t. TooShort t room))
+        (LongEnough sizes (atEntry «old_next») (atEntry «new_next») «old_shown» «new_shown» room) ⌝ }
 {
     if memory::shorter(old_next.len(), old_shown) < sizes.old * sizes.vectors {
         return true;
@@ -127,7 +129,7 @@ fn leads_out(next: &[u8], states: usize, vectors: usize) -> bool
     requires { ⌜ states ≤ 128 ⌝ }
     requires { ⌜ vectors ≤ 64 ⌝ }
     requires { ⌜ states * vectors ≤ length (now next) ⌝ }
-    ensures { λ r. ⌜ Splits r (LeadsOut states vectors (now (next .entry))) (Stays states vectors (now (next .entry))) ⌝ }
+    ensures { λ r. ⌜ Splits r (LeadsOut states vectors (atEntry next)) (Stays states vectors (atEntry next)) ⌝ }
 {
     let end = states * vectors;
     let mut i = 0;

@@ -20,15 +20,17 @@
 //   tabulate_both x111100008060 x111100008040 7/4*6/1,3,2
 //   compare x111100008060 x111100008040 7/4*6/4,4,1/0,0,0,3/1,3,2
 //   map_alike 7/4*6/4,4,4/2,2,2 0,1,0,1/0,0,1,1/0*4/0,1,0,1/0,1,0,1/0*4
+//   map_alignable 7/4*6/4,4,4/2,2,2/0,0/0,0,0,1 0,1,0,1/0,0,1,1/0*4/0,1,0,1/0,1,0,1/0*4   only vector 0 is allowed
 //   trace_of 7/4*6/4,4,1/2,2,2/0,1/0,0,0,3 0,1,0,1/0,0,1,1/0*4/0,1,0,1/0,1,0,1/0*4
 //   earlier_number 19,10                    two numbers of refusals
 //
 // Of two designs the watched nets stand last: how many of the old one are watched, these, and those of the new one; without them none is.
 // map_alignable and judge are asked as map_alike is, list_of as trace_of: behind the lengths stand S of the old design, S of the new, V,
-// and the pair; the bytes are the six tables, of next states, outputs and watched values. Last comes the number that names the allowed
-// vectors, in four parts of 16 bits, the most significant first; where they are left out, all V vectors are allowed. length_of and read
-// take no list of numbers: their image stands behind an x. An answer shows each written slice behind a bar, as a list, 00*0 for an empty
-// one; of one with more than 64 runs of one value the first 64 runs, and a sum in which an entry counts by where it stands.
+// and the pair, of which maps and the verdict take no notice; the bytes are the six tables, of next states, outputs and watched values. Last
+// comes the number that names the allowed vectors, in four parts of 16 bits, the most significant first; where they are left out, all V
+// vectors are allowed. length_of and read take no list of numbers: their image stands behind an x. An answer shows each written slice behind
+// a bar, as a list, 00*0 for an empty one; of one with more than 64 runs of one value the first 64 runs, and a sum in which an entry counts
+// by where it stands.
 mod calls;
 mod designs;
 mod show;
@@ -37,6 +39,7 @@ mod words;
 
 ghost use Prim.Native.Nat.{_≤_};
 ghost use lib.ListN.{length};
+ghost use Rattle.memory.specs.Meaning.Slices.{lengthAtEntry};
 use machine::Pair;
 use machine::Sizes;
 use netlist::Design;
@@ -75,7 +78,7 @@ fn ask_all(all: &[u8]) {
 // Where the first such byte stands at or behind a place, or else the end.
 fn find(line: &[u8], from: usize, byte: u8) -> usize
     requires { ⌜ from ≤ length (now line) ⌝ }
-    ensures { λ r. ⌜ (from ≤ r) × (r ≤ length (now (line .entry))) ⌝ }
+    ensures { λ r. ⌜ (from ≤ r) × (r ≤ lengthAtEntry line) ⌝ }
 {
     let mut i = from;
     while i < line.len() {

@@ -1,6 +1,7 @@
 // The words of a question: lists of numbers, with a comma or a slash between two entries, and `*n` behind one that stands n times.
 ghost use Prim.Native.Nat.{_≤_};
 ghost use lib.ListN.{length};
+ghost use Rattle.memory.specs.Meaning.Slices.{lengthAtEntry};
 
 // How many entries a list has, and where it ends; 0 where it is spelled wrong or has no room.
 pub(crate) struct Word {
@@ -107,7 +108,7 @@ fn is_hex(line: &[u8], at: usize) -> bool {
 
 // The place behind the space, or the space and the x, at a place; 0 where none is there.
 fn opened(line: &[u8], at: usize, hex: bool) -> usize
-    ensures { λ r. ⌜ r ≤ length (now (line .entry)) ⌝ }
+    ensures { λ r. ⌜ r ≤ lengthAtEntry line ⌝ }
 {
     if line.len() <= at {
         return 0;
@@ -127,7 +128,7 @@ fn opened(line: &[u8], at: usize, hex: bool) -> usize
 // The place at which a list begins, or 0: nothing stands before its first entry.
 fn begun(line: &[u8], at: usize) -> usize
     requires { ⌜ at ≤ length (now line) ⌝ }
-    ensures { λ r. ⌜ r ≤ length (now (line .entry)) ⌝ }
+    ensures { λ r. ⌜ r ≤ lengthAtEntry line ⌝ }
 {
     match byte_at(line, at) {
         b',' | b'/' => 0,
@@ -138,7 +139,7 @@ fn begun(line: &[u8], at: usize) -> usize
 // The entry at a place of a list, which is at most so much.
 fn entry_at(line: &[u8], at: usize, hex: bool, most: usize) -> Entry
     requires { ⌜ at ≤ length (now line) ⌝ }
-    ensures { λ r. ⌜ (r .value ≤ most) × (r .next ≤ length (now (line .entry))) ⌝ }
+    ensures { λ r. ⌜ (r .value ≤ most) × (r .next ≤ lengthAtEntry line) ⌝ }
 {
     if at == line.len() {
         return Entry {
@@ -161,7 +162,7 @@ fn entry_at(line: &[u8], at: usize, hex: bool, most: usize) -> Entry
 // The entry at a place, with the count behind a star.
 fn counted(line: &[u8], at: usize, hex: bool, most: usize) -> Entry
     requires { ⌜ at ≤ length (now line) ⌝ }
-    ensures { λ r. ⌜ (r .value ≤ most) × (r .next ≤ length (now (line .entry))) ⌝ }
+    ensures { λ r. ⌜ (r .value ≤ most) × (r .next ≤ lengthAtEntry line) ⌝ }
 {
     let n = spelled(line, at, hex);
     let value = n.value;
@@ -205,7 +206,7 @@ fn counted(line: &[u8], at: usize, hex: bool, most: usize) -> Entry
 // A byte of two hexadecimal digits, or a decimal number.
 fn spelled(line: &[u8], at: usize, hex: bool) -> Number
     requires { ⌜ at ≤ length (now line) ⌝ }
-    ensures { λ r. ⌜ r .next ≤ length (now (line .entry)) ⌝ }
+    ensures { λ r. ⌜ r .next ≤ lengthAtEntry line ⌝ }
 {
     if !hex {
         return number_at(line, at, line.len(), 10);

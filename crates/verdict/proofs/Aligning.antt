@@ -10,6 +10,7 @@ use lib.Seq.{slice, length-take-le}
 use Rattle.numbers.proofs.Order.{stable}
 use Rattle.memory.specs.Meaning.Slices.{Zero, Cleared}
 use Rattle.memory.proofs.Slices.{zero-unique}
+use Rattle.memory.specs.Meaning.Tables.{tableOf}
 use Rattle.machine.specs.declared.Found.{Found}
 use Rattle.machine.specs.declared.Pair.{Pair}
 use Rattle.machine.specs.declared.Prior.{Prior}
@@ -17,7 +18,7 @@ use Rattle.machine.specs.declared.Sizes.{Sizes}
 use Rattle.machine.specs.Meaning.Lists.{Each, run}
 use Rattle.machine.specs.Meaning.Machine.{Machine}
 use Rattle.machine.specs.Meaning.Pick.{after}
-use Rattle.machine.specs.Meaning.Tables.{Tables, bothTables, pairs, number, at, In, Ok, oldMachine, newMachine, AlikeIn}
+use Rattle.machine.specs.Meaning.Tables.{Tables, tablesOf, pairs, number, at, In, Ok, oldMachine, newMachine, AlikeIn}
 use Rattle.machine.specs.Meaning.Verdict.{May, LowestOpen, Rounds, done, more, AllAlign}
 use Rattle.machine.specs.Working.Pairs.{pairAt, stepIn, ListAfterIn}
 use Rattle.machine.proofs.Answers.{run-pair}
@@ -37,7 +38,7 @@ use Rattle.verdict.proofs.Parts.{slice-at}
 
 -- how many pairs of power-up states a list does not lead to a pair for which the map holds 1; outputs and watched values play no part in it
 abbrev pub open-pairs : Sizes → List ℕ → List ℕ → List ℕ → List ℕ → ℕ
-open-pairs z next0 next1 reach l = unaligned (oldMachine (bothTables z next0 [] [] next1 [] [])) (newMachine (bothTables z next0 [] [] next1 [] [])) z (λ p. eqb (at z reach p) 1) l
+open-pairs z next0 next1 reach l = unaligned (oldMachine (tablesOf z (tableOf next0 [] []) (tableOf next1 [] []))) (newMachine (tablesOf z (tableOf next0 [] []) (tableOf next1 [] []))) z (λ p. eqb (at z reach p) 1) l
 
 same-open : (t : Tables) (reach l : List ℕ) → unaligned (oldMachine t) (newMachine t) (t .sizes) (λ p. eqb (at (t .sizes) reach p) 1) l ≡ open-pairs (t .sizes) (t .old .next) (t .new .next) reach l
 unfolding unaligned

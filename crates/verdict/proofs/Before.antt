@@ -1,6 +1,6 @@
 -- With all V vectors allowed the verdict is promised as it was before request §6: over all vectors below V, and by the lowest of 11, 12, 13
 -- and 16.
-use Prim.Native.Nat.{ℕ, _<_, _≤_, min}
+use Prim.Native.Nat.{ℕ, _<_, _≤_}
 use mathlib.Core.Path.{_≡_}
 use mathlib.Core.Logic.{_⊎_, inl, inr, ⊎-elim}
 use mathlib.Core.List.{List}
@@ -16,7 +16,7 @@ use Rattle.machine.specs.Meaning.Allowed.{everyVector}
 use Rattle.machine.specs.Meaning.Machine.{Machine}
 use Rattle.machine.specs.Meaning.Tables.{Tables, Ok, oldMachine, newMachine}
 use Rattle.machine.specs.Meaning.Faults.{TablesFault, VectorsFault}
-use Rattle.machine.specs.Meaning.Lent.{Lent, Left, Tidy}
+use Rattle.machine.specs.Meaning.Lent.{Lent, Left, Tidy, scratchOf}
 use Rattle.machine.specs.Working.Sets.{Below, Agree}
 use Rattle.machine.proofs.Allowed.{ones-allow-all}
 use Rattle.machine.proofs.Sets.{all-agree, agree-back, same-over, apart-over, written-over, alike-counts-over, alignable-counts-over}
@@ -41,7 +41,7 @@ module _ (m0 m1 : Machine) {X Y : ℕ → Type 0} (e : Agree X Y) (z : Sizes) wh
 -- the promise of before
 module _ (t : Tables) where
   pub data JudgeFaultBefore (s : Lent) : ℕ → Type 0 where
-    call : {n : ℕ} → TablesFault t (min (s .depth) (s .reach)) n → JudgeFaultBefore s n
+    call : {n : ℕ} → TablesFault t (scratchOf s) n → JudgeFaultBefore s n
     list : {n : ℕ} → ShortList (oldMachine t) (newMachine t) (Below (t .sizes)) (t .sizes) (s .written) n → JudgeFaultBefore s n
 
   pub record JudgesBefore (s : Lent) (e : Left) (r : Judged) : Type 0 where

@@ -13,7 +13,7 @@ use Rattle.memory.proofs.Places.{place-last}
 use Rattle.memory.proofs.Refusals.{first-then, keeps-second}
 use Rattle.machine.specs.Meaning.Tables.{Tables, pairs, Ok, oldMachine, newMachine}
 use Rattle.machine.specs.Meaning.Faults.{VectorsFault}
-use Rattle.machine.specs.Meaning.Lent.{Lent, leftOf}
+use Rattle.machine.specs.Meaning.Lent.{Lent, leftOf, scratchOf}
 use Rattle.places.specs.Working.{Good}
 use Rattle.seek.specs.Working.Steps.{Both, MapCounts}
 use Rattle.table_faults.proofs.Refusals.{vectors-place}
@@ -35,7 +35,7 @@ module _ {t : Tables} {a b : ℕ} (none : Free (VectorsFault t (min a b))) where
 
 module _ (t : Tables) (s : Lent) where
   abbrev Room : ℕ → Type 0
-  Room n = VectorsFault t (min (s .depth) (s .reach)) n
+  Room n = VectorsFault t (scratchOf s) n
 
   abbrev Short : ℕ → Type 0
   Short n = ShortList (oldMachine t) (newMachine t) (Ok (t .sizes)) (t .sizes) (s .written) n

@@ -2,7 +2,7 @@
 -- there always is.
 use mathlib.Core.Path.{_≡_, sym, ap, _∙_, subst}
 use mathlib.Core.List.{List}
-use Prim.Native.Nat.{ℕ, _<_, min}
+use Prim.Native.Nat.{ℕ, _<_}
 use native.Mathlib.Omega.{arith}
 use lib.ListN.{length, take}
 use lib.Seq.{length-take-le}
@@ -22,7 +22,7 @@ use Rattle.machine.proofs.Verdict.{written-unique, apart-unique, same-not-apart
 use Rattle.machine.proofs.Written.{written-exists}
 use Rattle.machine.proofs.Counting.{counts-unique}
 use Rattle.machine.specs.Meaning.Faults.{VectorsFault}
-use Rattle.machine.specs.Meaning.Lent.{Lent, Left}
+use Rattle.machine.specs.Meaning.Lent.{Lent, Left, scratchOf}
 use Rattle.table_faults.proofs.Refusals.{vectors-some}
 use Rattle.seek.proofs.Accepted.{good}
 use Rattle.places.proofs.Right.{inside}
@@ -86,7 +86,7 @@ module _ (t : Tables) (s : Lent) where
   pub refused-0-shut : (e : Left) (r : Judged) → r .verdict ≡ Verdict.Refused 0 → Judges t s e r → ⊥
   refused-0-shut e r is j = omega (arith, fault-positive ((rw is at (j .keeps)) .0 .applies))
 
-  module _ (none : Free (VectorsFault t (min (s .depth) (s .reach)))) where
+  module _ (none : Free (VectorsFault t (scratchOf s))) where
     -- an accepted call has a list, and one only: 16 is measured on it
     pub judged-list : (l : List ℕ) × VerdictList m0 m1 (Ok (t .sizes)) (t .sizes) l
     judged-list = written-exists m0 m1 (t .sizes) (inside t (good none))

@@ -1,7 +1,7 @@
 -- How many steps a verdict has at most, what 16 says where any trace fits the list slice, and which list slice is never too short.
 use mathlib.Core.Path.{_≡_, refl}
 use mathlib.Core.List.{List}
-use Prim.Native.Nat.{ℕ, _<_, _≤_, min}
+use Prim.Native.Nat.{ℕ, _<_, _≤_}
 use native.Mathlib.Omega.{arith}
 use lib.ListN.{length, take}
 use lib.Seq.{length-take-le}
@@ -12,7 +12,7 @@ use Rattle.machine.specs.declared.Sizes.{Sizes}
 use Rattle.machine.specs.Meaning.Machine.{Machine}
 use Rattle.machine.specs.Meaning.Tables.{Tables, In, Ok, oldMachine, newMachine, AlignableIn}
 use Rattle.machine.specs.Meaning.Faults.{TablesFault, VectorsFault}
-use Rattle.machine.specs.Meaning.Lent.{Lent, Left}
+use Rattle.machine.specs.Meaning.Lent.{Lent, Left, scratchOf}
 use Rattle.machine.specs.Meaning.Verdict.{IsSame, VerdictList}
 use Rattle.machine.specs.Meaning.Verdict as W
 use Rattle.machine.specs.Meaning.Bounds.{mostTrace, mostList, traceRoom, verdictRoom, Bounded}
@@ -58,10 +58,10 @@ module _ (t : Tables) (s : Lent) where
   z = t .sizes
 
   abbrev None : Type 0
-  None = Free (VectorsFault t (min (s .depth) (s .reach)))
+  None = Free (VectorsFault t (scratchOf s))
 
   -- none of 11, 12, 13 and 20: 11 and 13 are of the tables
-  tables-free : None → (n : ℕ) → TablesFault t (min (s .depth) (s .reach)) n → ⊥
+  tables-free : None → (n : ℕ) → TablesFault t (scratchOf s) n → ⊥
   tables-free none n f = none n (VectorsFault.tables f)
 
   -- 16 comes where none of 11, 12, 13 and 20 applies, and of a list that the slice cannot hold

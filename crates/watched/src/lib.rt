@@ -1,4 +1,5 @@
 // The watched nets beside a design: what is wrong with their numbers, and the numbers by value.
+ghost use Rattle.memory.specs.Meaning.Slices.{atEntry};
 ghost use Rattle.watched.specs.Working.Watching.{Takes};
 use netlist::Design;
 
@@ -14,7 +15,7 @@ pub struct Watch {
 
 // The watched nets of a design, taken from a slice of their numbers.
 pub fn take(d: Design, watch: &[u16]) -> Watch
-    ensures { λ r. ⌜ Takes d (now (watch .entry)) (r .number) (r .count) (r .nets) ⌝ }
+    ensures { λ r. ⌜ Takes d (atEntry watch) (r .number) (r .count) (r .nets) ⌝ }
 {
     let total = 2 + d.inputs as usize + d.latches as usize + d.count as usize;
     let count = watch.len();

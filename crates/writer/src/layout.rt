@@ -3,7 +3,7 @@ ghost use mathlib.Core.Path.{_≡_};
 ghost use Prim.Native.Nat.{_+_, _<_, _≤_};
 ghost use lib.ListN.{length, getD};
 ghost use Rattle.numbers.specs.Meaning.Bits.{bitOf};
-ghost use Rattle.memory.specs.Meaning.Slices.{Zero};
+ghost use Rattle.memory.specs.Meaning.Slices.{atEntry, lengthAtEntry, atExit, Zero};
 ghost use Rattle.netlist.specs.Working.Sound.{Sound};
 ghost use Rattle.limits.specs.Meaning.Limits.{mostCells};
 ghost use Rattle.limits.specs.Meaning.Layout.{mostBytes};
@@ -35,7 +35,7 @@ pub(crate) fn header(d: Design) -> Header
 // Writes the image of a design into a cleared slice.
 pub(crate) fn put(d: Design, h: Header, bytes: usize, image: &mut [u8])
     requires { ⌜ (Sound d) × (Heads d h) × (bytes ≡ bytesOf d) × (bytes ≤ length (now image)) × (Zero (now image)) ⌝ }
-    ensures { λ _. ⌜ (length (now (image .exit)) ≡ length (now (image .entry))) × (HoldsImage d (now (image .exit)) bytes) ⌝ }
+    ensures { λ _. ⌜ (length (atExit image) ≡ lengthAtEntry image) × (HoldsImage d (atExit image) bytes) ⌝ }
 {
     let words = packing::words_of(d, h);
     let cells = words.cells;
@@ -59,7 +59,7 @@ fn byte_at(
     k: usize,
 ) -> u8
     requires { ⌜ (count ≤ mostCells) × (tails ≤ mostTails) × (k < mostBytes) ⌝ }
-    ensures { λ r. ⌜ r ≡ wordByte header (λ i. getD (now (cells .entry)) i 0) (λ t. getD (now (tail .entry)) t 0) count tails k ⌝ }
+    ensures { λ r. ⌜ r ≡ wordByte header (λ i. getD (atEntry cells) i 0) (λ t. getD (atEntry tail) t 0) count tails k ⌝ }
 {
     let mut n: u8 = 0;
     let mut j: usize = 0;
@@ -79,7 +79,7 @@ fn bit_at(
     i: usize,
 ) -> u8
     requires { ⌜ (count ≤ mostCells) × (tails ≤ mostTails) ⌝ }
-    ensures { λ r. ⌜ r ≡ wordBit header (λ i. getD (now (cells .entry)) i 0) (λ t. getD (now (tail .entry)) t 0) count tails i ⌝ }
+    ensures { λ r. ⌜ r ≡ wordBit header (λ i. getD (atEntry cells) i 0) (λ t. getD (atEntry tail) t 0) count tails i ⌝ }
 {
     let behind = Image::HEADER_BITS + Image::CELL_BITS * count;
     if i < Image::HEADER_BITS {

@@ -1,7 +1,7 @@
 // Writing the netlist image of a design.
 mod layout;
 
-ghost use lib.ListN.{length};
+ghost use Rattle.memory.specs.Meaning.Slices.{lengthAtEntry, atExit};
 ghost use Rattle.writer.specs.Meaning.Writing.{Writes};
 use format::fields;
 use netlist::Design;
@@ -13,7 +13,7 @@ pub enum Written {
 
 // Writes the image of a design, and zero behind it.
 pub fn write(d: Design, image: &mut [u8]) -> Written
-    ensures { λ r. ⌜ Writes d (length (now (image .entry))) r (now (image .exit)) ⌝ }
+    ensures { λ r. ⌜ Writes d (lengthAtEntry image) r (atExit image) ⌝ }
 {
     memory::clear_bytes(image);
     let number = order::fault_of(d);

@@ -2,7 +2,8 @@
 use mathlib.Core.Path.{refl, sym}
 use native.Mathlib.Omega.{arith}
 use lib.Seq.{length-take-le}
-use Rattle.align_report.proofs.Images.{front-fits, old-unmeasured, old-unread, new-unread, read-few, both-read}
+use Rattle.image.proofs.Front.{front-fits}
+use Rattle.align_report.proofs.Images.{old-unmeasured, old-unread, new-unread, read-few, both-read}
 use borrow.Author.Needs.{needs}
 use Rattle.align_report.proofs.write_images.Statement.{statement}
 use Rattle.align_report.proofs.write_images.Tie as tie

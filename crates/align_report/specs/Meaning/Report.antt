@@ -1,9 +1,6 @@
 -- What the program `align` prints of its input, and what is printed of two images under any panel: which text, and with which numbers.
 -- The number `allowed` names the allowed vectors; "`align` and later programs watch nothing".
---   oldBytes, newBytes b       the bytes of the old and of the new image in b
---   oldDesign, newDesign b     the designs that they spell
---   OldRefused b k             the old image is refused by number k
---   OldAccepted b              it is accepted
+--   newDesign b                the design that the new image in b spells; of the old one `format` speaks, Meaning/Front
 --   FactsOf a b allowed f      the numbers f in front of a verdict are those of the designs a and b
 --   AnswersDesigns a b allowed n s list′ t   the text t answers the designs a and b, with table slices of lengths n and other slices of
 --                              lengths s; list′ is what the list slice holds then
@@ -18,7 +15,7 @@
 use Prim.Native.Nat.{ℕ, _+_, _*_}
 use mathlib.Core.Path.{_≡_}
 use mathlib.Core.List.{List, []}
-use lib.ListN.{length, take, drop}
+use lib.ListN.{length, take}
 use Rattle.io.specs.Counts as io
 use Rattle.memory.specs.Meaning.Refusals.{Free, First}
 use Rattle.memory.specs.Meaning.Slices.{Zero}
@@ -26,8 +23,9 @@ use Rattle.memory.specs.Meaning.Tables.{Lengths}
 use Rattle.netlist.specs.declared.Design.{Design}
 use Rattle.netlist.specs.Meaning.Nets.{vectorsOf}
 use Rattle.limits.specs.Meaning.Layout.{mostBytes}
-use Rattle.format.specs.Meaning.Format.{bytesIn, decoded}
-use Rattle.format.specs.Meaning.Faults.{ImageFault, HeaderFault}
+use Rattle.format.specs.Meaning.Format.{decoded}
+use Rattle.format.specs.Meaning.Faults.{ImageFault}
+use Rattle.format.specs.Meaning.Front.{restIn, frontDesign, FrontRefused, FrontAccepted}
 use Rattle.machine.specs.declared.Pair.{Pair}
 use Rattle.machine.specs.Meaning.Machine.{Alike, Alignable}
 use Rattle.machine.specs.Meaning.Tables.{Ok, pairs}
@@ -43,27 +41,9 @@ use Rattle.report.specs.Meaning.Text.{refusalText, sameText, apartText}
 use Rattle.panel.specs.declared.Panel.{Panel}
 use Rattle.panel.specs.Meaning.Panel.{allowedBy}
 
--- "Standard input holds the old image and then the new, back to back": the old one takes the bytes that its header says
-abbrev pub oldBytes : List ℕ → List ℕ
-oldBytes b = take (bytesIn b) b
-
-abbrev pub newBytes : List ℕ → List ℕ
-newBytes b = drop (bytesIn b) b
-
-abbrev pub oldDesign : List ℕ → Design
-oldDesign b = decoded (oldBytes b)
-
+-- "Standard input holds the old image and then the new, back to back; 8 applies to the new one"
 abbrev pub newDesign : List ℕ → Design
-newDesign b = decoded (newBytes b)
-
--- "8 applies to the new one": the old image ends where its header says, unless the header or the input's end forbids it
-pub data OldRefused (b : List ℕ) (k : ℕ) : Type 0 where
-  header : First (HeaderFault b) k → OldRefused b k
-  image : Free (HeaderFault b) → First (ImageFault (oldBytes b)) k → OldRefused b k
-
-pub record OldAccepted (b : List ℕ) : Type 0 where
-  pub header : Free (HeaderFault b)
-  pub image : Free (ImageFault (oldBytes b))
+newDesign b = decoded (restIn b)
 
 -- "The lines hold I and O, L of old and new; alike pairs and all pairs; alignable pairs and all pairs"
 pub record FactsOf (a b : Design) (allowed : ℕ) (f : Facts) : Type 0 where
@@ -85,9 +65,9 @@ pub data AnswersDesigns (a b : Design) (allowed : ℕ) (n : TablesLent) (s : Len
 
 -- "A refusal prints only `REFUSED OLD n`, `REFUSED NEW n` or `REFUSED BOTH n` .., looked for in that order"
 pub data Answers (o : Panel) (b : List ℕ) (n : TablesLent) (s : Lent) (list′ t : List ℕ) : Type 0 where
-  old-refused : (k : ℕ) → OldRefused b k → Zero list′ → t ≡ refusalText Old k → Answers o b n s list′ t
-  new-refused : (k : ℕ) → OldAccepted b → First (ImageFault (newBytes b)) k → Zero list′ → t ≡ refusalText New k → Answers o b n s list′ t
-  designs : OldAccepted b → Free (ImageFault (newBytes b)) → AnswersDesigns (oldDesign b) (newDesign b) (allowedBy o (vectorsOf (oldDesign b))) n s list′ t → Answers o b n s list′ t
+  old-refused : (k : ℕ) → FrontRefused b k → Zero list′ → t ≡ refusalText Old k → Answers o b n s list′ t
+  new-refused : (k : ℕ) → FrontAccepted b → First (ImageFault (restIn b)) k → Zero list′ → t ≡ refusalText New k → Answers o b n s list′ t
+  designs : FrontAccepted b → Free (ImageFault (restIn b)) → AnswersDesigns (frontDesign b) (newDesign b) (allowedBy o (vectorsOf (frontDesign b))) n s list′ t → Answers o b n s list′ t
 
 -- the list slice keeps its length; beyond the text, text′ is free
 pub record Reports (o : Panel) (b : List ℕ) (n : TablesLent) (s : Lent) (list′ text′ : List ℕ) (r : ℕ) : Type 0 where

@@ -8,7 +8,7 @@
 --   TablesKept n t                   every table slice is as long as it was
 --   Compares a b w0 w1 allowed n s t e r   such a call: the slices are left as t and e, and r is the answer, with the counts of alike and of
 --                                    alignable pairs
-use Prim.Native.Nat.{ℕ, _<_, min}
+use Prim.Native.Nat.{ℕ, _<_}
 use mathlib.Core.Path.{_≡_}
 use mathlib.Core.List.{List}
 use Rattle.memory.specs.Meaning.Refusals.{Keeps}
@@ -18,7 +18,7 @@ use Rattle.netlist.specs.declared.Design.{Design}
 use Rattle.simulator.specs.Meaning.Tables.{HoldsDesign, BothFault}
 use Rattle.machine.specs.Meaning.Allowed.{WrongAllowed}
 use Rattle.machine.specs.Meaning.Tables.{pairs, Ok}
-use Rattle.machine.specs.Meaning.Lent.{Lent, Left, Tidy}
+use Rattle.machine.specs.Meaning.Lent.{Lent, Left, Tidy, scratchOf}
 use Rattle.verdict.specs.declared.Judged.{Judged}
 use Rattle.verdict.specs.Meaning.Decision.{Decision, verdictReply, Decided, CountsBeside, ShortList}
 use Rattle.compare.specs.Meaning.Designs.{machineOf, sizesOf}
@@ -42,7 +42,7 @@ tablesLeftOf t0 t1 = record { old = t0; new = t1 }
 -- sizes and next states are the designs'
 pub data CompareFault (a b : Design) (w0 w1 : List ℕ) (allowed : ℕ) (n : TablesLent) (s : Lent) : ℕ → Type 0 where
   tabulating : {k : ℕ} → BothFault a b w0 w1 (shortestOf (n .old)) (shortestOf (n .new)) k → CompareFault a b w0 w1 allowed n s k
-  scratch : min (s .depth) (s .reach) < pairs (sizesOf a b allowed) → CompareFault a b w0 w1 allowed n s 12
+  scratch : scratchOf s < pairs (sizesOf a b allowed) → CompareFault a b w0 w1 allowed n s 12
   vectors : WrongAllowed (sizesOf a b allowed) → CompareFault a b w0 w1 allowed n s 20
   list : {k : ℕ} → ShortList (machineOf a w0) (machineOf b w1) (Ok (sizesOf a b allowed)) (sizesOf a b allowed) (s .written) k
       → CompareFault a b w0 w1 allowed n s k

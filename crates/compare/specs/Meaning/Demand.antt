@@ -6,7 +6,7 @@
 --   Enough a b w0 w1 allowed s          so are scratch and list slice of lengths s
 --   Supposed a b w0 w1 allowed n s      what demand 3 supposes: exactly a comparison that is not refused (laws no-fault and not-refused)
 --   Demand3 a b w0 w1 allowed n s e r   where that is so, r is right
-use Prim.Native.Nat.{ℕ, _<_, _≤_, min}
+use Prim.Native.Nat.{ℕ, _<_, _≤_}
 use mathlib.Core.List.{List}
 use lib.ListN.{length, take}
 use Rattle.memory.specs.Meaning.Tables.{shortestOf}
@@ -17,9 +17,9 @@ use Rattle.machine.specs.declared.Pair.{Pair}
 use Rattle.machine.specs.Meaning.Allowed.{WrongAllowed}
 use Rattle.machine.specs.Meaning.Tables.{pairs, number, In, Ok}
 use Rattle.machine.specs.Meaning.Verdict.{VerdictList}
-use Rattle.machine.specs.Meaning.Lent.{Lent, Left}
+use Rattle.machine.specs.Meaning.Lent.{Lent, Left, scratchOf}
 use Rattle.verdict.specs.declared.Verdict.{Verdict}
-use Rattle.compare.specs.Meaning.Designs.{machineOf, sizesOf, Compatible, Watchable, Drives}
+use Rattle.compare.specs.Meaning.Designs.{machineOf, sizesOf, Compatible, Watchable, Drives, DrivesAll}
 use Rattle.compare.specs.Meaning.Comparing.{TablesLent}
 
 -- some list drives the pair to an alike pair; "Demands 2 and 3 take alike, alignable and lists as they now stand"
@@ -30,7 +30,7 @@ pub record Driven (a b : Design) (w0 w1 : List ℕ) (allowed : ℕ) (p : Pair) :
 -- found the same, and the list drives every pair of power-up states to an alike pair; or found apart, and no list so drives the pair
 -- named, which is the lowest such pair
 pub data Right (a b : Design) (w0 w1 : List ℕ) (allowed : ℕ) (l : List ℕ) : Verdict → Type 0 where
-  same : (n : ℕ) → n ≤ length l → ((p : Pair) → In (sizesOf a b allowed) p → Drives a b w0 w1 allowed p (take n l)) → Right a b w0 w1 allowed l (Verdict.Same n)
+  same : (n : ℕ) → n ≤ length l → DrivesAll a b w0 w1 allowed (take n l) → Right a b w0 w1 allowed l (Verdict.Same n)
   apart : (p : Pair) (n : ℕ) → In (sizesOf a b allowed) p → (Driven a b w0 w1 allowed p → ⊥)
       → ((q : Pair) → In (sizesOf a b allowed) q → number (sizesOf a b allowed) q < number (sizesOf a b allowed) p → Driven a b w0 w1 allowed q) → Right a b w0 w1 allowed l (Verdict.Apart p n)
 
@@ -43,7 +43,7 @@ pub record EnoughTables (a b : Design) (n : TablesLent) : Type 0 where
 -- shorter than the answer; §2: "demand 3 measures the list slice on what is picked now". Of lists with VerdictList there is exactly one
 -- (laws written-exists and written-unique of machine)
 pub record Enough (a b : Design) (w0 w1 : List ℕ) (allowed : ℕ) (s : Lent) : Type 0 where
-  pub scratch : pairs (sizesOf a b allowed) ≤ min (s .depth) (s .reach)
+  pub scratch : pairs (sizesOf a b allowed) ≤ scratchOf s
   pub list : (l : List ℕ) → VerdictList (machineOf a w0) (machineOf b w1) (Ok (sizesOf a b allowed)) (sizesOf a b allowed) l → length l ≤ s .written
 
 -- two accepted designs with as many inputs and outputs each; §9: "watched slices that neither 5 nor 21 refuses, and third tables long

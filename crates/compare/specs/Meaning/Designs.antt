@@ -4,6 +4,8 @@
 --   Compatible a b                 10 finds nothing
 --   Watchable a b w0 w1            5 and 21 find nothing in the watched nets
 --   Drives a b w0 w1 allowed p l   the list l of allowed vectors drives the pair p to an alike pair
+--   DrivesAll a b w0 w1 allowed l  it drives every pair of power-up states to one
+--   allVectors d                   the number that allows every vector of the design d
 use mathlib.Core.Path.{_≡_}
 use mathlib.Core.List.{List}
 use Prim.Native.Nat.{ℕ}
@@ -16,7 +18,9 @@ use Rattle.machine.specs.declared.Pair.{Pair}
 use Rattle.machine.specs.declared.Sizes.{Sizes}
 use Rattle.machine.specs.Meaning.Lists.{Leads}
 use Rattle.machine.specs.Meaning.Machine.{Machine, step, Alike}
+use Rattle.machine.specs.Meaning.Allowed.{everyVector}
 use Rattle.machine.specs.Meaning.Tables.{Ok}
+use Rattle.machine.specs.Meaning.Verdict.{AlignsAll}
 
 -- "Demand 3 speaks of designs and their own steps, not of steps read from tables"; §9: "Beside each design comes a slice of up to eight
 -- watched net numbers"
@@ -43,3 +47,10 @@ pub record Watchable (a b : Design) (w0 w1 : List ℕ) : Type 0 where
 abbrev pub Drives : Design → Design → List ℕ → List ℕ → ℕ → Pair → List ℕ → Type 0
 Drives a b w0 w1 allowed p l =
     Leads (step (machineOf a w0) (machineOf b w1)) (Ok (sizesOf a b allowed)) (Alike (machineOf a w0) (machineOf b w1) (Ok (sizesOf a b allowed))) p l
+
+abbrev pub DrivesAll : Design → Design → List ℕ → List ℕ → ℕ → List ℕ → Type 0
+DrivesAll a b w0 w1 allowed l = AlignsAll (machineOf a w0) (machineOf b w1) (Ok (sizesOf a b allowed)) (sizesOf a b allowed) l
+
+-- "`align` allows all", and so does every program that takes no number: what `panel` gives for `Panel.Every` (law every-named)
+abbrev pub allVectors : Design → ℕ
+allVectors d = everyVector (vectorsOf d)

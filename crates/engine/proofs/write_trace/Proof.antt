@@ -12,7 +12,7 @@ find-trace-requires : tie.Need-find-trace-requires
 find-trace-requires c κs = (c .before .before .before .before .before .before .before .before .before .before .before .before .before .before .before .before .before .before .pre .0, (search needs, (map-traces _ (begun _ (c .before .before .before .before .before .before .before .before .before .before .before .before .before .before .before .before .before .before .pre .0) (c .before .before .before .before .before .before .before .before .differ .ensures)) (c .before .before .before .before .search .ensures .0) .complete, c .before .before .before .before .before .before .before .before .before .before .before .before .before .before .before .before .before .before .pre .1 .1)))
 
 returns : tie.Need-returns
-returns c = (c .before .before .before .before .before .before .find-trace .ensures, search needs)
+returns c = (c .before .before .before .before .before .before .find-trace .ensures, record { size = search needs; zero = search needs })
 
 pub write-trace-spec : {M : Type 1} → statement M
 write-trace-spec =

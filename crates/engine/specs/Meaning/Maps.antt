@@ -2,14 +2,13 @@
 --   AlikeCount             the values of an answer of `map_alike`
 --   alikeReply             the number and the values of each case of its answer
 --   alignableReply         the same of `map_alignable`, whose value is the count
---   roomOf s               the entries of the shortest slice with one entry a pair
 --   Marks P z mark count   the marks say of each pair whether P holds, all beyond them is 0, and count of them are 1
 --   MarksAlike t mark x    the marks and the count of alike pairs are right, and so is the round number
 --   MapsAlike t s e r      `map_alike` of the tables t: slices of lengths s are left as e, and r is the answer
 --   MapsAlignable t s e r  `map_alignable`, likewise
 use mathlib.Core.Path.{_≡_}
 use mathlib.Core.List.{List}
-use Prim.Native.Nat.{ℕ, min}
+use Prim.Native.Nat.{ℕ}
 use Rattle.numbers.specs.Meaning.Count.{countOf}
 use Rattle.memory.specs.Meaning.Refusals.{Reply, answer, refusal, Keeps}
 use Rattle.memory.specs.Meaning.Slices.{ZeroFrom, Zero}
@@ -17,7 +16,7 @@ use Rattle.machine.specs.declared.Pair.{Pair}
 use Rattle.machine.specs.declared.Sizes.{Sizes}
 use Rattle.machine.specs.Meaning.Tables.{Tables, pairs, at, In, Flag, AlikeIn, AlignableIn, RoundIn}
 use Rattle.machine.specs.Meaning.Faults.{VectorsFault}
-use Rattle.machine.specs.Meaning.Lent.{Lent, Left, Tidy}
+use Rattle.machine.specs.Meaning.Lent.{Lent, Left, roomOf, Tidy}
 use Rattle.engine.specs.declared.MappedAlike.{MappedAlike}
 use Rattle.engine.specs.declared.MappedAlignable.{MappedAlignable}
 
@@ -44,10 +43,6 @@ pub record Marks (P : Pair → Type 0) (z : Sizes) (mark : List ℕ) (count : �
 pub record MarksAlike (t : Tables) (mark : List ℕ) (x : AlikeCount) : Type 0 where
   pub marks : Marks (AlikeIn t) (t .sizes) mark (x .count)
   pub round : RoundIn t (x .round)
-
--- 12 looks at the mark slice and at scratch
-abbrev pub roomOf : Lent → ℕ
-roomOf s = min (s .written) (min (s .depth) (s .reach))
 
 pub record MapsAlike (t : Tables) (s : Lent) (e : Left) (r : MappedAlike) : Type 0 where
   pub keeps : Keeps (VectorsFault t (roomOf s)) (MarksAlike t (e .written)) (Zero (e .written)) (alikeReply r)

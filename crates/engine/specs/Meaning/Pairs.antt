@@ -4,7 +4,7 @@
 --   Finds t s p N S e r        such a call of the tables t: slices of lengths s are left as e, and r is the answer
 --   FindsTrace, FindsList      `trace_of` and `list_of`
 use mathlib.Core.List.{List}
-use Prim.Native.Nat.{ℕ, _<_, min}
+use Prim.Native.Nat.{ℕ, _<_}
 use lib.ListN.{length}
 use Rattle.memory.specs.Meaning.Refusals.{Reply, answer, refusal, Keeps}
 use Rattle.memory.specs.Meaning.Slices.{Zero}
@@ -12,7 +12,7 @@ use Rattle.machine.specs.declared.Found.{Found}
 use Rattle.machine.specs.declared.Pair.{Pair}
 use Rattle.machine.specs.Meaning.Tables.{Tables, AlikeIn, AlignableIn, TraceIn, ListIn}
 use Rattle.machine.specs.Meaning.Faults.{StateFault}
-use Rattle.machine.specs.Meaning.Lent.{Lent, Left, Tidy, Listed}
+use Rattle.machine.specs.Meaning.Lent.{Lent, Left, Tidy, Listed, scratchOf}
 
 abbrev pub foundReply : Found → Reply ℕ
 foundReply (Found.Steps n) = answer n
@@ -20,7 +20,7 @@ foundReply (Found.Refused n) = refusal n
 
 -- "15 a trace of an alike pair, or a list of a pair that isn't alignable", "16 list slice shorter than the answer"
 pub data PairFault (t : Tables) (s : Lent) (p : Pair) (None : Type 0) (Sought : List ℕ → Type 0) : ℕ → Type 0 where
-  state : {n : ℕ} → StateFault t (min (s .depth) (s .reach)) p n → PairFault t s p None Sought n
+  state : {n : ℕ} → StateFault t (scratchOf s) p n → PairFault t s p None Sought n
   none : None → PairFault t s p None Sought 15
   short-list : (l : List ℕ) → Sought l → s .written < length l → PairFault t s p None Sought 16
 

@@ -5,8 +5,9 @@
 --   earlierNumber a b  of two such numbers, of which 0 is none, the one that comes first
 --   Reply A            an answer with its values, or a refusal with its number
 --   Right F N A C r    the reply r is right: an answer a, with A a, where F; else a number n with N n, and C
---   Keeps P A C r      right for a call: an answer where no number applies, else the first that does
---   KeepsFirst P order num A C r   right in an order of its own: an answer where no entry applies, else the number of the first that does
+--   KeepsIn P order A C r   right in that order: an answer where no number applies, else the first that does
+--   Keeps P A C r      the same in the one order of numbers
+--   KeepsFirst P order num A C r   the same of entries that have numbers: an answer where none applies, else the number of the first that does
 -- P n says that the number n of the papers' tables applies to a call. No number is 0.
 use Prim.Native.Nat.{ℕ, zero, suc}
 use mathlib.Core.Path.{_≡_}
@@ -39,8 +40,11 @@ abbrev pub Right : {A : Type 0} → Type 0 → (ℕ → Type 0) → (A → Type 
 Right None Returned Answers Cleared (answer a) = None × Answers a
 Right None Returned Answers Cleared (refusal n) = Returned n × Cleared
 
+abbrev pub KeepsIn : {A : Type 0} → (ℕ → Type 0) → List ℕ → (A → Type 0) → Type 0 → Reply A → Type 0
+KeepsIn P order Answers Cleared r = Right (Free P) (FirstIn P order) Answers Cleared r
+
 abbrev pub Keeps : {A : Type 0} → (ℕ → Type 0) → (A → Type 0) → Type 0 → Reply A → Type 0
-Keeps P Answers Cleared r = Right (Free P) (First P) Answers Cleared r
+Keeps P Answers Cleared r = KeepsIn P tableOrder Answers Cleared r
 
 abbrev pub KeepsFirst : {K A : Type 0} → (K → Type 0) → List K → (K → ℕ) → (A → Type 0) → Type 0 → Reply A → Type 0
 KeepsFirst P order number Answers Cleared r = Right (Free P) (FirstNumber P order number) Answers Cleared r

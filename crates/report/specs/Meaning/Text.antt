@@ -5,14 +5,17 @@
 --   sameText f l               the text of Same with the list l
 --   apartText m0 m1 f p l      the text of Apart with the pair p and its trace l, of the machines m0 and m1
 --   shownLines                 the lines of a trace of two machines
+--   shownTables z a b c d      the tables of the sizes z of which the texts tell: next states a and outputs b of the old design, c and d of the new
 --   apartIn t f p l            the text of Apart, of the machines in the tables t
 use Prim.Native.Nat.{ℕ}
 use Prim.Native.String.{String}
 use mathlib.Core.List.{List, [], _∷_, _++_}
 use lib.ListN.{length}
+use Rattle.memory.specs.Meaning.Tables.{tableOf}
 use Rattle.machine.specs.declared.Pair.{Pair}
+use Rattle.machine.specs.declared.Sizes.{Sizes}
 use Rattle.machine.specs.Meaning.Machine.{Machine, step}
-use Rattle.machine.specs.Meaning.Tables.{Tables, oldMachine, newMachine}
+use Rattle.machine.specs.Meaning.Tables.{Tables, tablesOf, oldMachine, newMachine}
 use Rattle.pieces.specs.Meaning.Pieces.{spelled, newline, field, lastField}
 use Rattle.report.specs.declared.Facts.{Facts}
 use Rattle.report.specs.declared.Side.{Side}
@@ -73,6 +76,10 @@ module _ (m0 m1 : Machine) where
 
   abbrev pub apartText : Facts → Pair → List ℕ → List ℕ
   apartText f p l = headText f ++ pairLine p (length l) ++ shownLines p l
+
+-- watched values are not printed
+abbrev pub shownTables : Sizes → List ℕ → List ℕ → List ℕ → List ℕ → Tables
+shownTables z next0 out0 next1 out1 = tablesOf z (tableOf next0 out0 []) (tableOf next1 out1 [])
 
 -- the same of the machines in two tables
 abbrev pub apartIn : Tables → Facts → Pair → List ℕ → List ℕ

@@ -1,7 +1,7 @@
 -- `map_lists`: the search from the zeros of a map.
 use native.Mathlib.Omega.{arith}
 use Rattle.memory.proofs.Filling.{written-end}
-use Rattle.seek.proofs.Sets.{flag-one}
+use Rattle.machine.proofs.Flags.{flag-one}
 use borrow.Author.Needs.{needs}
 use Rattle.seek.proofs.map_lists.Statement.{statement}
 use Rattle.seek.proofs.map_lists.Tie as tie

@@ -13,16 +13,15 @@ use Prim.Native.Nat.{ℕ, _-_, _<_}
 use mathlib.Core.Path.{_≡_}
 use mathlib.Core.List.{List, [], _∷_}
 use Rattle.memory.specs.Meaning.Refusals.{Free, First}
-use Rattle.netlist.specs.Meaning.Nets.{vectorsOf, value, outputs}
+use Rattle.netlist.specs.Meaning.Nets.{value, outputs}
 use Rattle.simulator.specs.Meaning.Clock.{IsStep}
 use Rattle.format.specs.Meaning.Format.{decoded}
 use Rattle.format.specs.Meaning.Faults.{ImageFault}
 use Rattle.machine.specs.declared.Sizes.{Sizes}
-use Rattle.machine.specs.Meaning.Allowed.{everyVector}
 use Rattle.machine.specs.Meaning.Machine.{Machine, Alike, Alignable, IsTrace, IsList}
 use Rattle.machine.specs.Meaning.Tables.{pairs, Ok}
 use Rattle.machine.specs.Meaning.Verdict.{IsSame, IsApart}
-use Rattle.compare.specs.Meaning.Designs.{machineOf, sizesOf}
+use Rattle.compare.specs.Meaning.Designs.{machineOf, sizesOf, allVectors}
 
 -- "`11 11 00 00 80 60` (old: the input into a flip-flop, shown)"
 abbrev pub imageP : List ℕ
@@ -70,7 +69,7 @@ module _ (a b : List ℕ) where
 
   -- "Its power-up states are all state numbers below 2 to the L"; "V is 2 to the I"; the sheet speaks of all V vectors
   abbrev pub sizes : Sizes
-  sizes = sizesOf (decoded a) (decoded b) (everyVector (vectorsOf (decoded a)))
+  sizes = sizesOf (decoded a) (decoded b) (allVectors (decoded a))
 
   module _ (s0 s1 : ℕ) where
     -- "(0,1) is alike": Definition 4

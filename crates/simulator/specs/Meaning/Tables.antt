@@ -1,7 +1,7 @@
 -- The tables of one design or of two, with the nets that are watched beside each.
 --   sizeOf d                    entries of a table
---   HoldsEach d f l             the slice l holds what f gives of each state of the design d under each vector, and zero beyond
---   HoldsDesign d w t           the slices t hold every clock of d with the watched nets w
+--   Gives d f l                 the slice l gives what f does of each state of the design d under each vector; HoldsEach d f l the same, and zero beyond
+--   GivesDesign d w t           the slices t give every clock of d with the watched nets w; HoldsDesign d w t the same, and zero beyond
 --   TableSizes, BothSizes       what tabulating gives: S and V; S of the old design, S of the new, and V
 --   tableReply r, bothReply r   the number or the values of each answer
 --   TableFault d w room k       number k applies to tabulating d, with the watched nets w, into slices of which the shortest has room bytes
@@ -27,12 +27,21 @@ use Rattle.simulator.specs.declared.TabulatedBoth.{TabulatedBoth}
 abbrev pub sizeOf : Design → ℕ
 sizeOf d = statesOf d * vectorsOf d
 
--- "entry s × V + v"; "After an answer the part beyond it is zero"
-pub record HoldsEach (d : Design) (f : ℕ → ℕ → ℕ) (l : List ℕ) : Type 0 where
-  pub entry : (s v : ℕ) → s < statesOf d → v < vectorsOf d → getD l (s * vectorsOf d + v) 0 ≡ f s v
-  pub beyond : ZeroFrom (sizeOf d) l
+-- "entry s × V + v"
+abbrev pub Gives : Design → (ℕ → ℕ → ℕ) → List ℕ → Type 0
+Gives d f l = (s v : ℕ) → s < statesOf d → v < vectorsOf d → getD l (s * vectorsOf d + v) 0 ≡ f s v
 
 -- "gives next state and output byte", and by §9 the watched value
+pub record GivesDesign (d : Design) (w : List ℕ) (t : Table) : Type 0 where
+  pub next : Gives d (nextState d) (t .next)
+  pub out : Gives d (outputs d) (t .out)
+  pub seen : Gives d (watched d w) (t .seen)
+
+-- "After an answer the part beyond it is zero"
+pub record HoldsEach (d : Design) (f : ℕ → ℕ → ℕ) (l : List ℕ) : Type 0 where
+  pub entry : Gives d f l
+  pub beyond : ZeroFrom (sizeOf d) l
+
 pub record HoldsDesign (d : Design) (w : List ℕ) (t : Table) : Type 0 where
   pub next : HoldsEach d (nextState d) (t .next)
   pub out : HoldsEach d (outputs d) (t .out)

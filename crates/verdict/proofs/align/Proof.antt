@@ -5,7 +5,8 @@ use Prim.Native.Nat.{ℕ}
 use native.Mathlib.Omega.{arith}
 use lib.ListN.{length, take}
 use borrow.Author.Needs.{needs}
-use Rattle.machine.specs.Meaning.Tables.{bothTables}
+use Rattle.memory.specs.Meaning.Tables.{tableOf}
+use Rattle.machine.specs.Meaning.Tables.{tablesOf}
 use Rattle.finding.proofs.Lists.{ready}
 use Rattle.verdict.specs.Working.Deciding.{Reached}
 use Rattle.verdict.proofs.Aligning.{open-pairs, Aligning, leading-old, leading-new, aligning-start, aligned, found-under, no-room, added-fits, part-below, falls, aligning-more, its-part}
@@ -14,7 +15,7 @@ use Rattle.verdict.proofs.align.Tie as tie
 
 abbrev Inv-loop : tie.InvT-loop
 Inv-loop old-next new-next sizes reach list₀ end old-marks₀ new-marks₀ len₀ list old-marks new-marks len =
-    (length list ≡ length list₀) × ((out0 seen0 out1 seen1 : List ℕ) → Reached (bothTables sizes old-next out0 seen0 new-next out1 seen1) reach → Aligning (bothTables sizes old-next out0 seen0 new-next out1 seen1) list₀ list len old-marks new-marks)
+    (length list ≡ length list₀) × ((out0 seen0 out1 seen1 : List ℕ) → Reached (tablesOf sizes (tableOf old-next out0 seen0) (tableOf new-next out1 seen1)) reach → Aligning (tablesOf sizes (tableOf old-next out0 seen0) (tableOf new-next out1 seen1)) list₀ list len old-marks new-marks)
 
 abbrev μ-loop : tie.MeasureT-loop
 μ-loop old-next new-next sizes reach list₀ end old-marks₀ new-marks₀ len₀ list old-marks new-marks len = open-pairs sizes old-next new-next reach (take len list)

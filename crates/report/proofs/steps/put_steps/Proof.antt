@@ -1,13 +1,13 @@
 -- `put_steps`: the lines of the steps passed stand in the text, and both designs are in the pair reached.
 use borrow.Author.Needs.{needs}
 use Prim.Native.Nat.{ℕ, _-_, _≤_}
-use mathlib.Core.List.{List, []}
+use mathlib.Core.List.{List}
 use mathlib.Core.Path.{ap₂}
 use native.Mathlib.Omega.{arith}
 use Rattle.machine.specs.declared.Pair.{Pair}
 use Rattle.machine.specs.Meaning.Machine.{step}
-use Rattle.machine.specs.Meaning.Tables.{Tables, bothTables, oldMachine, newMachine}
-use Rattle.report.specs.Meaning.Text.{shownLine, shownAt}
+use Rattle.machine.specs.Meaning.Tables.{Tables, oldMachine, newMachine}
+use Rattle.report.specs.Meaning.Text.{shownLine, shownAt, shownTables}
 use Rattle.report.specs.Working.Tracing.{Small}
 use Rattle.report.proofs.Listing.{Listed, listed-none, listed-more, listed-all}
 use Rattle.report.proofs.steps.put_steps.Statement.{statement}
@@ -17,7 +17,7 @@ abbrev Shown : Tables → Pair → List ℕ → ℕ → List ℕ → List ℕ �
 Shown t = Listed (shownAt (oldMachine t) (newMachine t)) (step (oldMachine t) (newMachine t)) 12
 
 abbrev Inv-loop : tie.InvT-loop
-Inv-loop old-next old-out new-next new-out sizes list n text₀ at q₀ end₀ i₀ text q end i = (i ≤ n) × Small sizes q × Shown (bothTables sizes old-next old-out [] new-next new-out []) q₀ list at text₀ text i end q
+Inv-loop old-next old-out new-next new-out sizes list n text₀ at q₀ end₀ i₀ text q end i = (i ≤ n) × Small sizes q × Shown (shownTables sizes old-next old-out new-next new-out) q₀ list at text₀ text i end q
 
 abbrev μ-loop : tie.MeasureT-loop
 μ-loop old-next old-out new-next new-out sizes list n text₀ at q₀ end₀ i₀ text q end i = n - i
