@@ -1,11 +1,10 @@
 // The bytes that a text with escapes spells.
 ghost use Rattle.std.specs.Prelude.{◌+◌, ◌<◌, ◌≤◌, length};
-ghost use Rattle.memory.specs.Meaning.Slices.{at_exit};
 
 use converter::Text;
 
 // Whether a text is spelled by the rules and has room, and how many bytes were written.
-#[derive(Drop)]
+#[derive(Clone, Copy)]
 pub(crate) struct Decoded {
     pub fine: bool,
     pub bytes: usize,
@@ -13,7 +12,7 @@ pub(crate) struct Decoded {
 
 // Writes the bytes that are spelled behind a colon.
 pub(crate) fn decode(spelled: &[u8], text: &mut [u8]) -> Decoded
-    ensures { result.bytes ≤ length (at_exit text) }
+    ensures { result.bytes ≤ length text.new }
 {
     let mut n = 0;
     let mut at = 1;
@@ -42,7 +41,7 @@ pub(crate) fn decode(spelled: &[u8], text: &mut [u8]) -> Decoded
 }
 
 // A byte, and where the next one is spelled; 0 if nothing is spelled.
-#[derive(Drop)]
+#[derive(Clone, Copy)]
 struct Spelled {
     byte: u8,
     next: usize,

@@ -5,7 +5,6 @@
 mod escapes;
 
 ghost use Rattle.std.specs.Prelude.{◌≡◌, ◌+◌, ◌≤◌, length};
-ghost use Rattle.memory.specs.Meaning.Slices.{length_at_entry};
 ghost use Rattle.converter.specs.Meaning.Output.{most_text};
 
 use converter::Text;
@@ -40,7 +39,7 @@ fn ask_all(all: &[u8], room: &mut [u8])
 // Where the first such byte stands at or behind a place, or else the end.
 fn find(line: &[u8], from: usize, byte: u8) -> usize
     requires { from ≤ length line.now }
-    ensures { (from ≤ result) × (result ≤ length_at_entry line) }
+    ensures { (from ≤ result) × (result ≤ length line.now) }
 {
     let mut i = from;
     while i < line.len() {

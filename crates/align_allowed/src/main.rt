@@ -1,7 +1,6 @@
 // Reads the number that names the allowed vectors and two netlist images, back to back, and prints whether the second design can replace
 // the first, whatever state either wakes in, where no other vectors occur.
 ghost use Rattle.std.specs.Prelude.{◌≡◌, ◌+◌, ◌*◌, ◌≤◌, length};
-ghost use Rattle.memory.specs.Meaning.Slices.{at_entry, at_exit};
 ghost use Rattle.streams.specs.Meaning.Input.{Within};
 ghost use Rattle.streams.specs.Meaning.Output.{Sends};
 ghost use Rattle.align_allowed.specs.Meaning.Allowing.{allowed_in, OutputsAllowed, most_read_allowed, unread_allowed};
@@ -35,7 +34,7 @@ fn main() {
 // Puts what the program writes of its room into a text: what it prints of what was read, or the words that nothing could be read.
 fn answer(room: &[u8], input: Input, text: &mut [u8]) -> Output
     requires { (length room.now ≡ most_read_allowed) × (Within input room.now) × (400 + 12 * 32768 ≤ length text.old) }
-    ensures { Sends unread_allowed OutputsAllowed input (at_entry room) (at_exit text) result.stream result.length }
+    ensures { Sends unread_allowed OutputsAllowed input room.now text.new result.stream result.length }
 {
     let Input::Read(n) = input else {
         return streams::put_unread(b"align_allowed: standard input cannot be read\n", text);
@@ -50,7 +49,7 @@ fn answer(room: &[u8], input: Input, text: &mut [u8]) -> Output
 
 // The number in the first eight bytes, of which the first is the most significant; past their end there are zeros.
 fn allowed_in(input: &[u8]) -> u64
-    ensures { result ≡ allowed_in (at_entry input) }
+    ensures { result ≡ allowed_in input.now }
 {
     let parts = reader::run(input, 0, 16, 16, 16, 16, 0);
     let high = parts.first as u64 * 65536 + parts.second as u64;

@@ -3,11 +3,11 @@
 // and scratch are held here, for designs at every limit.
 mod numbers_of;
 
+ghost use Rattle.machine.specs.Meaning.Lent.{lent_of};
+ghost use Rattle.memory.specs.Meaning.Tables.{table_of, lengths_of};
 ghost use Rattle.std.specs.Prelude.{◌≡◌, ◌+◌, ◌*◌, ◌≤◌, [], length};
-ghost use Rattle.memory.specs.Meaning.Slices.{at_entry, length_at_entry, at_exit, Zero};
-ghost use Rattle.memory.specs.Meaning.Tables.{table_lengths_at_entry};
+ghost use Rattle.memory.specs.Meaning.Slices.{Zero};
 ghost use Rattle.netlist.specs.Meaning.Faults.{Accepted};
-ghost use Rattle.machine.specs.Meaning.Lent.{lengths_at_entry};
 ghost use Rattle.machine.specs.Meaning.Tables.{Ok};
 ghost use Rattle.verdict.specs.Meaning.Decision.{CountsPairs};
 ghost use Rattle.compare.specs.Meaning.Designs.{machine_of, sizes_of};
@@ -37,7 +37,7 @@ const STEPS: usize = 32768;
 // Puts what the program writes of its room into a text: what it prints of what was read, or the words that nothing could be read.
 pub fn answer(room: &[u8], input: Input, text: &mut [u8]) -> Output
     requires { (length room.now ≡ most_read) × (Within input room.now) × (400 + 12 * 32768 ≤ length text.old) }
-    ensures { Sends unread_message Outputs input (at_entry room) (at_exit text) result.stream result.length }
+    ensures { Sends unread_message Outputs input room.now text.new result.stream result.length }
 {
     let Input::Read(n) = input else {
         return streams::put_unread(b"align: standard input cannot be read\n", text);
@@ -50,7 +50,7 @@ pub fn answer(room: &[u8], input: Input, text: &mut [u8]) -> Output
 // Writes what is printed of two images, with a list slice of any length, and hands back how many bytes it has.
 pub fn write_report(input: &[u8], panel: Panel, list: &mut [u8], text: &mut [u8]) -> usize
     requires { 400 + 12 * length list.old ≤ length text.old }
-    ensures { Reports panel (at_entry input) own_tables (own_slices (length_at_entry list)) (at_exit list) (at_exit text) result }
+    ensures { Reports panel input.now own_tables (own_slices (length list.old)) list.new text.new result }
 {
     let mut old_next = [0u8; ENTRIES];
     let mut old_out = [0u8; ENTRIES];
@@ -95,9 +95,9 @@ fn write_images(
 ) -> usize
     requires list_in_bounds { 400 + 12 * length list.old ≤ length text.old }
     requires zero { Zero list.old }
-    ensures { Reports panel (at_entry input)
-        (tables_lent_of (table_lengths_at_entry old_next old_out old_seen) (table_lengths_at_entry new_next new_out new_seen))
-        (lengths_at_entry depth reach list) (at_exit list) (at_exit text) result }
+    ensures { Reports panel input.now
+        (tables_lent_of (lengths_of (table_of old_next.old old_out.old old_seen.old)) (lengths_of (table_of new_next.old new_out.old new_seen.old)))
+        (lent_of (length depth.old) (length reach.old) (length list.old)) list.new text.new result }
 {
     let measured = image::length_of(input);
     let Length::Bytes(n) = measured else {
@@ -140,8 +140,8 @@ fn write_comparison(
 ) -> usize
     requires { 400 + 12 * length list.old ≤ length text.old }
     ensures { ReportsDesigns old new allowed
-        (tables_lent_of (table_lengths_at_entry old_next old_out old_seen) (table_lengths_at_entry new_next new_out new_seen))
-        (lengths_at_entry depth reach list) (at_exit list) (at_exit text) result }
+        (tables_lent_of (lengths_of (table_of old_next.old old_out.old old_seen.old)) (lengths_of (table_of new_next.old new_out.old new_seen.old)))
+        (lent_of (length depth.old) (length reach.old) (length list.old)) list.new text.new result }
 {
     let nothing = [0u16; 0];
     let judged = compare::compare(

@@ -1,6 +1,5 @@
 // A line: where a byte stands in it, and what it says.
 ghost use Rattle.std.specs.Prelude.{◌≤◌, length};
-ghost use Rattle.memory.specs.Meaning.Slices.{length_at_entry, at_exit};
 
 use panel::Panel;
 
@@ -10,7 +9,7 @@ const NUMBER: usize = 8;
 // Where the first such byte stands at or behind a place, or else the end.
 pub(crate) fn find(line: &[u8], from: usize, byte: u8) -> usize
     requires { from ≤ length line.now }
-    ensures { (from ≤ result) × (result ≤ length_at_entry line) }
+    ensures { (from ≤ result) × (result ≤ length line.now) }
 {
     let mut i = from;
     while i < line.len() {
@@ -79,7 +78,7 @@ fn behind(number: u64, byte: u8) -> u64 {
 
 // Writes the bytes that stand behind a colon or space each, as far as there is room, and hands back how many.
 pub(crate) fn decode(digits: &[u8], input: &mut [u8]) -> usize
-    ensures { result ≤ length (at_exit input) }
+    ensures { result ≤ length input.new }
 {
     let mut n = 0;
     while n < input.len() && n < digits.len() / 3 {

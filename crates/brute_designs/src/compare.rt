@@ -46,7 +46,7 @@ pub const NO_ROOM: usize = 20000;
 // both and vectors; bytes of the image and of the slice; bytes that the header gives, or 10000 and a number, and the first place at which
 // the image written again differs; states of a recording, or 1000 and a record, or 2000 and a number, the same of it in two parts, and
 // where these are cut.
-#[derive(Drop)]
+#[derive(Clone, Copy)]
 pub struct Answer(pub usize, pub usize, pub usize, pub usize, pub usize);
 
 // Counts a comparison. A difference is printed with its design, if it is one of the first few; then the result is true.

@@ -148,7 +148,7 @@ pub fn list_of(d: Design) -> Plain {
 }
 
 // A gate's kind, and its nets.
-#[derive(Drop)]
+#[derive(Clone, Copy)]
 struct Numbers(u16, u16, u16);
 
 // The kind of a gate and the nets that it reads, the second 0 where it reads one.

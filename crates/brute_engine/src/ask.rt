@@ -42,7 +42,7 @@ const DIRTY: usize = 8;
 const SCRATCH: usize = 17;
 
 // What is asked, and of which pair.
-#[derive(Drop)]
+#[derive(Clone, Copy)]
 pub(crate) struct Question {
     pub(crate) call: usize,
     pub(crate) pair: Pair,

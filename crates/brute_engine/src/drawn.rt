@@ -20,7 +20,7 @@ const APART: usize = 0;
 const CHANGED: usize = 2;
 
 // The tables of one machine.
-#[derive(Drop)]
+#[derive(Clone, Copy)]
 struct Table {
     next: [u8; ENTRIES],
     out: [u8; ENTRIES],

@@ -5,7 +5,7 @@ use machine::{Pair, Sizes};
 // The most entries of a machine's table: 4 states and 3 vectors.
 pub(crate) const ENTRIES: usize = 12;
 
-#[derive(Drop)]
+#[derive(Clone, Copy)]
 pub(crate) struct Machines {
     pub(crate) sizes: Sizes,
     pub(crate) old_next: [u8; ENTRIES],

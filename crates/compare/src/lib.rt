@@ -1,9 +1,9 @@
 // Two designs to a verdict: their tables are written, and judged. A refusal that comes only then clears the tables again.
-ghost use Rattle.std.specs.Prelude.{◌≡◌};
-ghost use Rattle.memory.specs.Meaning.Slices.{at_entry, length_at_entry, at_exit, Cleared};
-ghost use Rattle.memory.specs.Meaning.Tables.{table_at_exit, table_lengths_at_entry};
-ghost use Rattle.machine.specs.Meaning.Tables.{tables_at_entry};
-ghost use Rattle.machine.specs.Meaning.Lent.{lengths_at_entry, left_at_exit};
+ghost use Rattle.machine.specs.Meaning.Lent.{lent_of, left_of};
+ghost use Rattle.machine.specs.Meaning.Tables.{tables_of};
+ghost use Rattle.memory.specs.Meaning.Tables.{table_of, lengths_of};
+ghost use Rattle.std.specs.Prelude.{◌≡◌, length};
+ghost use Rattle.memory.specs.Meaning.Slices.{Cleared};
 ghost use Rattle.compare.specs.Meaning.Comparing.{tables_lent_of, tables_left_of, Compares};
 ghost use Rattle.compare.specs.Working.Judging.{JudgedOrCleared};
 
@@ -30,11 +30,11 @@ pub fn compare(
     reach: &mut [u16],
     list: &mut [u8],
 ) -> Judged
-    ensures { Compares old new (at_entry old_watch) (at_entry new_watch) allowed
-        (tables_lent_of (table_lengths_at_entry old_next old_out old_seen) (table_lengths_at_entry new_next new_out new_seen))
-        (lengths_at_entry depth reach list)
-        (tables_left_of (table_at_exit old_next old_out old_seen) (table_at_exit new_next new_out new_seen))
-        (left_at_exit depth reach list) result }
+    ensures { Compares old new old_watch.now new_watch.now allowed
+        (tables_lent_of (lengths_of (table_of old_next.old old_out.old old_seen.old)) (lengths_of (table_of new_next.old new_out.old new_seen.old)))
+        (lent_of (length depth.old) (length reach.old) (length list.old))
+        (tables_left_of (table_of old_next.new old_out.new old_seen.new) (table_of new_next.new new_out.new new_seen.new))
+        (left_of depth.new reach.new list.new) result }
 {
     let tabulated = simulator::tabulate_both(
         old, new, old_watch, new_watch, old_next, old_out, old_seen, new_next, new_out, new_seen,
@@ -62,9 +62,9 @@ pub fn compare(
 // The answer beside a refusal of the tabulating call; the slices that it does not write are cleared.
 fn refuse(number: u8, depth: &mut [u8], reach: &mut [u16], list: &mut [u8]) -> Judged
     ensures value { result ≡ record { verdict = Verdict.Refused number; alike = 0; alignable = 0 } }
-    ensures cleared { Cleared (length_at_entry depth) (at_exit depth) }
-    ensures cleared_2 { Cleared (length_at_entry reach) (at_exit reach) }
-    ensures cleared_3 { Cleared (length_at_entry list) (at_exit list) }
+    ensures cleared { Cleared (length depth.old) depth.new }
+    ensures cleared_2 { Cleared (length reach.old) reach.new }
+    ensures cleared_3 { Cleared (length list.old) list.new }
 {
     memory::clear_scratch(depth, reach);
     memory::clear_bytes(list);
@@ -88,10 +88,10 @@ fn judge_or_clear(
     reach: &mut [u16],
     list: &mut [u8],
 ) -> Judged
-    ensures { JudgedOrCleared (tables_at_entry sizes old_next old_out old_seen new_next new_out new_seen)
-        (lengths_at_entry depth reach list)
-        (tables_left_of (table_at_exit old_next old_out old_seen) (table_at_exit new_next new_out new_seen))
-        (left_at_exit depth reach list) result }
+    ensures { JudgedOrCleared (tables_of sizes (table_of old_next.old old_out.old old_seen.old) (table_of new_next.old new_out.old new_seen.old))
+        (lent_of (length depth.old) (length reach.old) (length list.old))
+        (tables_left_of (table_of old_next.new old_out.new old_seen.new) (table_of new_next.new new_out.new new_seen.new))
+        (left_of depth.new reach.new list.new) result }
 {
     let judged = verdict::judge(
         old_next, old_out, old_seen, new_next, new_out, new_seen, sizes, depth, reach, list,

@@ -1,7 +1,6 @@
 // What the program `convert` does with its input: a drawing in ASCII AIGER is read, and the image of its design written, or its refusal.
 ghost use Rattle.std.specs.Prelude.{◌≡◌, [], ◌+◌, ◌≤◌, length, take};
 ghost use Rattle.limits.specs.Meaning.Layout.{most_bytes};
-ghost use Rattle.memory.specs.Meaning.Slices.{at_entry, at_exit};
 ghost use Rattle.memory.specs.Working.Tests.{Tells};
 ghost use Rattle.lines.specs.Meaning.Spelling.{words_at};
 ghost use Rattle.netlist.specs.Meaning.Faults.{Accepted};
@@ -17,7 +16,7 @@ use streams::{Input, Output};
 use writer::Written;
 
 // The program's input: a text of up to a mebibyte, or the front of a longer one.
-#[derive(Drop)]
+#[derive(Clone, Copy)]
 pub struct Text {}
 
 impl Text {
@@ -35,7 +34,7 @@ impl Text {
 // open; or the message that nothing could be read.
 pub fn answer(room: &[u8], input: Input, out: &mut [u8]) -> Output
     requires { (length room.now ≡ most_text + 1) × (Within input room.now) × (most_bytes ≤ length out.old) }
-    ensures { Sends unread_message Converts input (at_entry room) (at_exit out) result.stream result.length }
+    ensures { Sends unread_message Converts input room.now out.new result.stream result.length }
 {
     let Input::Read(n) = input else {
         return streams::put_unread(b"convert: standard input cannot be read\n", out);
@@ -46,7 +45,7 @@ pub fn answer(room: &[u8], input: Input, out: &mut [u8]) -> Output
 // The same of the first n bytes of the room. The front of a longer text answers for all of it, unless no line feed ends its first line.
 fn convert(room: &[u8], n: usize, out: &mut [u8]) -> Output
     requires { (length room.now ≡ most_text + 1) × (n ≤ length room.now) × (most_bytes ≤ length out.old) }
-    ensures { Converts (take n (at_entry room)) (at_exit out) result.stream result.length }
+    ensures { Converts (take n room.now) out.new result.stream result.length }
 {
     if n > Text::MOST_BYTES {
         if unended(&room[..n]) {
@@ -72,7 +71,7 @@ fn convert(room: &[u8], n: usize, out: &mut [u8]) -> Output
 
 // Whether no line feed ends the first line.
 fn unended(text: &[u8]) -> bool
-    ensures { Tells result (words_at (at_entry text) 0 ≡ []) }
+    ensures { Tells result (words_at text.now 0 ≡ []) }
 {
     let mut i = 0;
     while i < text.len() {
@@ -97,7 +96,7 @@ fn refused_by(answer: Answer) -> u8
 // The image of an accepted design, which has room.
 fn put_image(design: Design, out: &mut [u8]) -> usize
     requires { (Accepted design) × (most_bytes ≤ length out.old) }
-    ensures { HoldsWhole design (at_exit out) result }
+    ensures { HoldsWhole design out.new result }
 {
     let written = writer::write(design, out);
     let Written::Bytes(bytes) = written else {

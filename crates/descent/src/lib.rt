@@ -1,6 +1,5 @@
 // The list of a pair, down a map that is right: each step is chosen by the one before.
 ghost use Rattle.std.specs.Prelude.{◌<◌};
-ghost use Rattle.memory.specs.Meaning.Slices.{at_entry, at_exit};
 ghost use Rattle.machine.specs.Meaning.Tables.{In};
 ghost use Rattle.memory.specs.Working.Tests.{Tells};
 ghost use Rattle.places.specs.Working.{LowestBelow, ChosenBelow, Walk, Ready};
@@ -22,7 +21,7 @@ pub fn descend(
     requires walk { Walk sizes old_next.now new_next.now map.now }
     requires ready { Ready sizes old_next.now new_next.now map.now }
     requires descent { Descent sizes map.now p list.old }
-    ensures descended { Descended sizes (at_entry old_next) (at_entry new_next) (at_entry map) p prior (at_entry list) (at_exit list) result }
+    ensures descended { Descended sizes old_next.now new_next.now map.now p prior list.old list.new result }
     ensures fact { In sizes result }
 {
     let mut q = p;
@@ -54,7 +53,7 @@ fn chosen(
 ) -> usize
     requires walk { Walk sizes old_next.now new_next.now map.now }
     requires fact { In sizes p }
-    ensures { ChosenBelow prior (To sizes (at_entry old_next) (at_entry new_next) (at_entry map) k p) sizes.vectors result }
+    ensures { ChosenBelow prior (To sizes old_next.now new_next.now map.now k p) sizes.vectors result }
 {
     if let Prior::Vector(u) = prior {
         if u < sizes.vectors {
@@ -79,7 +78,7 @@ fn lands(
     requires walk { Walk sizes old_next.now new_next.now map.now }
     requires fact { In sizes p }
     requires v_lt_vectors { v < sizes.vectors }
-    ensures { Tells result (To sizes (at_entry old_next) (at_entry new_next) (at_entry map) k p v) }
+    ensures { Tells result (To sizes old_next.now new_next.now map.now k p v) }
 {
     if !places::allows(sizes, v) {
         return false;
@@ -92,7 +91,7 @@ fn lands(
 fn lowest(old_next: &[u8], new_next: &[u8], sizes: Sizes, map: &[u16], k: usize, p: Pair) -> usize
     requires walk { Walk sizes old_next.now new_next.now map.now }
     requires fact { In sizes p }
-    ensures { LowestBelow (To sizes (at_entry old_next) (at_entry new_next) (at_entry map) k p) sizes.vectors result }
+    ensures { LowestBelow (To sizes old_next.now new_next.now map.now k p) sizes.vectors result }
 {
     let mut v = 0;
     while v < sizes.vectors {

@@ -1,6 +1,6 @@
 // The cells of a drawing, and the nets that flip-flops and outputs read.
 ghost use Rattle.std.specs.Prelude.{◌≡◌, ◌+◌, ◌<◌, ◌≤◌, length};
-ghost use Rattle.memory.specs.Meaning.Slices.{length_at_entry, at_exit, Zero};
+ghost use Rattle.memory.specs.Meaning.Slices.{Zero};
 ghost use Rattle.memory.specs.Working.Filling.{Filled};
 ghost use Rattle.limits.specs.Meaning.Limits.{most_cells};
 ghost use Rattle.netlist.specs.Meaning.Gates.{blank_cell};
@@ -54,7 +54,7 @@ fn net_read(d: Drawing, w: Wires, r: usize) -> u16
 // Puts the nets of n read literals, from literal r on, into a list of zeros.
 pub(crate) fn take_nets(d: Drawing, w: Wires, r: usize, n: usize, nets: &mut [u16])
     requires { (Spelled d) × (Wired d w.nets w.nots w.count) × (r + n ≤ reads d) × (n ≤ length nets.old) × (Zero nets.old) }
-    ensures { Filled (λ k. net_of d (read_at d (r + k))) 0 (length_at_entry nets) n (at_exit nets) }
+    ensures { Filled (λ k. net_of d (read_at d (r + k))) 0 (length nets.old) n nets.new }
 {
     let mut k = 0;
     while k < n {

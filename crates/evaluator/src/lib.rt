@@ -4,7 +4,6 @@
 // sets theirs. The nets of dead cells stay 0.
 ghost use Rattle.std.specs.Prelude.{◌≡◌, ℕ, ◌+◌, ◌^◌, ◌<◌, ◌≤◌, get_or};
 ghost use Rattle.numbers.specs.Meaning.Bits.{horner};
-ghost use Rattle.memory.specs.Meaning.Slices.{at_entry, at_exit};
 ghost use Rattle.memory.specs.Working.Filling.{Filled};
 ghost use Rattle.netlist.specs.Meaning.Gates.{first_of, second_of};
 ghost use Rattle.netlist.specs.Meaning.Nets.{cell_base, gate_value, source, value, latched, next_state, outputs};
@@ -16,7 +15,7 @@ use netlist::{Design, Gate};
 use order::Plan;
 use watched::Watch;
 
-#[derive(Drop)]
+#[derive(Clone, Copy)]
 pub struct Stepped {
     pub next: u8,
     pub out: u8,
@@ -39,7 +38,7 @@ pub fn step(d: Design, plan: Plan, s: usize, v: usize) -> Stepped
     }
 }
 
-#[derive(Drop)]
+#[derive(Clone, Copy)]
 pub struct Observed {
     pub next: u8,
     pub out: u8,
@@ -110,7 +109,7 @@ fn sources(d: Design, s: usize, v: usize) -> [u8; Image::MOST_NETS]
 // Puts the bits of a number, the most significant first, at the nets from a start on.
 fn spread(vals: &mut [u8; Image::MOST_NETS], start: usize, width: usize, number: usize)
     requires { (start + width ≤ most_nets) × (width ≤ 8) }
-    ensures { Spreads start width number width (at_entry vals) (at_exit vals) }
+    ensures { Spreads start width number width vals.old vals.new }
 {
     let mut j = 0;
     while j < width {
@@ -123,7 +122,7 @@ fn spread(vals: &mut [u8; Image::MOST_NETS], start: usize, width: usize, number:
 // What a gate makes of the values of the nets that it reads: of two values AND, OR or XOR, or one of these inverted.
 fn gate_value(g: Gate, vals: &[u8; Image::MOST_NETS]) -> u8
     requires { (first_of g < most_nets) × (second_of g < most_nets) × ((n : ℕ) → get_or vals.now n 0 < 2) }
-    ensures { result ≡ gate_value g (λ n. get_or (at_entry vals) n 0) }
+    ensures { result ≡ gate_value g (λ n. get_or vals.now n 0) }
 {
     match g {
         Gate::Buf(a) => vals[a as usize],
@@ -147,7 +146,7 @@ fn next_word(
     vals: &[u8; Image::MOST_NETS],
 ) -> u8
     requires { Latchable «data».now enable.now clear.now own n vals.now }
-    ensures { result ≡ horner (latched_in (at_entry «data») (at_entry enable) (at_entry clear) own (at_entry vals)) n }
+    ensures { result ≡ horner (latched_in «data».now enable.now clear.now own vals.now) n }
 {
     let mut r: u8 = 0;
     let mut k = 0;
@@ -164,7 +163,7 @@ fn next_word(
 // The value of the net at a place of a list.
 fn value_of(nets: &[u16], k: usize, vals: &[u8; Image::MOST_NETS]) -> u8
     requires { get_or nets.now k 0 < most_nets }
-    ensures { result ≡ get_or (at_entry vals) (get_or (at_entry nets) k 0) 0 }
+    ensures { result ≡ get_or vals.now (get_or nets.now k 0) 0 }
 {
     let net = netlist::net_at(nets, k);
     vals[net]
@@ -186,7 +185,7 @@ fn latch(clear: u8, enable: u8, data: u8, held: u8) -> u8
 // The number that the values of the first n nets of a list spell, the first net most significant.
 fn word(nets: &[u16], n: usize, vals: &[u8; Image::MOST_NETS]) -> u8
     requires { Readable nets.now n vals.now }
-    ensures { result ≡ horner (λ k. get_or (at_entry vals) (get_or (at_entry nets) k 0) 0) n }
+    ensures { result ≡ horner (λ k. get_or vals.now (get_or nets.now k 0) 0) n }
 {
     let mut r: u8 = 0;
     let mut k = 0;

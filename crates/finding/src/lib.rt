@@ -1,7 +1,7 @@
 // The trace or list of one pair, by a map that is right.
+ghost use Rattle.memory.specs.Meaning.Tables.{table_of};
 ghost use Rattle.std.specs.Prelude.{◌≡◌, ◌≤◌, length};
-ghost use Rattle.memory.specs.Meaning.Slices.{at_entry, at_exit};
-ghost use Rattle.machine.specs.Meaning.Tables.{tables_at_entry, tables_now, pairs, at, In};
+ghost use Rattle.machine.specs.Meaning.Tables.{pairs, at, In, tables_of};
 ghost use Rattle.machine.specs.Working.Pairs.{DiffersIn};
 ghost use Rattle.places.specs.Working.{Walk, Ready, Good, MapFor, ListTo, Outcome, TraceOutcome};
 
@@ -20,12 +20,12 @@ pub fn find_trace(
     map: &[u16],
     list: &mut [u8],
 ) -> Found
-    requires good { Good (tables_now sizes old_next old_out old_seen new_next new_out new_seen) }
+    requires good { Good (tables_of sizes (table_of old_next.now old_out.now old_seen.now) (table_of new_next.now new_out.now new_seen.now)) }
     requires sizes_in_bounds { pairs sizes ≤ length map.now }
-    requires map_for { MapFor (tables_now sizes old_next old_out old_seen new_next new_out new_seen)
-        (DiffersIn (tables_now sizes old_next old_out old_seen new_next new_out new_seen)) map.now }
+    requires map_for { MapFor (tables_of sizes (table_of old_next.now old_out.now old_seen.now) (table_of new_next.now new_out.now new_seen.now))
+        (DiffersIn (tables_of sizes (table_of old_next.now old_out.now old_seen.now) (table_of new_next.now new_out.now new_seen.now))) map.now }
     requires fact { In sizes p }
-    ensures { TraceOutcome (tables_at_entry sizes old_next old_out old_seen new_next new_out new_seen) p (at_entry list) (at_exit list) result }
+    ensures { TraceOutcome (tables_of sizes (table_of old_next.now old_out.now old_seen.now) (table_of new_next.now new_out.now new_seen.now)) p list.old list.new result }
 {
     let steps = places::map_at(sizes, map, p);
     if steps == 0 {
@@ -54,8 +54,8 @@ pub fn find_list(
     requires walk { Walk sizes old_next.now new_next.now map.now }
     requires ready { Ready sizes old_next.now new_next.now map.now }
     requires fact { In sizes p }
-    ensures { Outcome (at sizes (at_entry map) p ≡ 0) (ListTo sizes (at_entry old_next) (at_entry new_next) (at_entry map) prior p)
-        (at_entry list) (at_exit list) result }
+    ensures { Outcome (at sizes map.now p ≡ 0) (ListTo sizes old_next.now new_next.now map.now prior p)
+        list.old list.new result }
 {
     let above = places::map_at(sizes, map, p);
     if above == 0 {

@@ -1,7 +1,6 @@
 // Maps and marks that say 1 where something holds of a pair and 0 elsewhere: where some allowed vector shows a difference, of outputs or of
 // watched values, where a map holds 0, where it holds more. And which vector to take to show a difference.
 ghost use Rattle.std.specs.Prelude.{◌≡◌, ◌<◌, ◌≤◌, length, get_or};
-ghost use Rattle.memory.specs.Meaning.Slices.{at_entry, at_exit};
 ghost use Rattle.machine.specs.Meaning.Tables.{pairs, In};
 ghost use Rattle.numbers.specs.Meaning.Count.{count_of};
 ghost use Rattle.memory.specs.Working.Tests.{Tells};
@@ -22,8 +21,8 @@ pub fn differ(
     requires ample { Ample sizes old_out.now new_out.now }
     requires ample_2 { Ample sizes old_seen.now new_seen.now }
     requires sizes_in_bounds { pairs sizes ≤ length map.old }
-    ensures { Flagged (DiffersAt sizes (at_entry old_out) (at_entry old_seen) (at_entry new_out) (at_entry new_seen))
-        (pairs sizes) (at_entry map) (at_exit map) }
+    ensures { Flagged (DiffersAt sizes old_out.now old_seen.now new_out.now new_seen.now)
+        (pairs sizes) map.old map.new }
 {
     let end = places::total(sizes);
     let mut i = 0;
@@ -53,7 +52,7 @@ pub fn chosen_different(
     requires ample { Ample sizes old_out.now new_out.now }
     requires ample_2 { Ample sizes old_seen.now new_seen.now }
     requires fact { In sizes p }
-    ensures { ChosenBelow prior (Different sizes (at_entry old_out) (at_entry old_seen) (at_entry new_out) (at_entry new_seen) p)
+    ensures { ChosenBelow prior (Different sizes old_out.now old_seen.now new_out.now new_seen.now p)
         sizes.vectors result }
 {
     if let Prior::Vector(u) = prior {
@@ -69,7 +68,7 @@ pub fn chosen_different(
 // The first n entries of a map become 1 where they are 0, and 0 elsewhere.
 pub fn flag_zeros(entries: &mut [u16], n: usize)
     requires { n ≤ length entries.old }
-    ensures { Flagged (λ q. get_or (at_entry entries) q 0 ≡ 0) n (at_entry entries) (at_exit entries) }
+    ensures { Flagged (λ q. get_or entries.old q 0 ≡ 0) n entries.old entries.new }
 {
     let mut i = 0;
     while i < n {
@@ -87,8 +86,8 @@ pub fn mark_positive(map: &[u16], n: usize, mark: &mut [u8]) -> usize
     requires n_in_bounds { n ≤ length map.now }
     requires n_in_bounds_2 { n ≤ length mark.old }
     requires n_bound { n ≤ 16384 }
-    ensures flagged { Flagged (λ q. 0 < get_or (at_entry map) q 0) n (at_entry mark) (at_exit mark) }
-    ensures value { result ≡ count_of 1 (at_exit mark) n }
+    ensures flagged { Flagged (λ q. 0 < get_or map.now q 0) n mark.old mark.new }
+    ensures value { result ≡ count_of 1 mark.new n }
 {
     let mut count = 0;
     let mut i = 0;
@@ -116,7 +115,7 @@ fn different_vector(
     requires ample { Ample sizes old_out.now new_out.now }
     requires ample_2 { Ample sizes old_seen.now new_seen.now }
     requires fact { In sizes p }
-    ensures { LowestBelow (Different sizes (at_entry old_out) (at_entry old_seen) (at_entry new_out) (at_entry new_seen) p) sizes.vectors result }
+    ensures { LowestBelow (Different sizes old_out.now old_seen.now new_out.now new_seen.now p) sizes.vectors result }
 {
     let mut vector = 0;
     while vector < sizes.vectors {
@@ -142,7 +141,7 @@ fn shows(
     requires ample_2 { Ample sizes old_seen.now new_seen.now }
     requires fact { In sizes p }
     requires v_lt_vectors { v < sizes.vectors }
-    ensures { Tells result (Different sizes (at_entry old_out) (at_entry old_seen) (at_entry new_out) (at_entry new_seen) p v) }
+    ensures { Tells result (Different sizes old_out.now old_seen.now new_out.now new_seen.now p v) }
 {
     if !places::allows(sizes, v) {
         return false;

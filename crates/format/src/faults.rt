@@ -1,7 +1,6 @@
 // What is wrong with an image.
 ghost use Rattle.std.specs.Prelude.{◌≡◌, ◌⊎◌, List, ℕ, ◌+◌, ◌-◌, ◌*◌, ◌^◌, ◌<◌, ◌≤◌, length};
 ghost use Rattle.memory.specs.Meaning.Refusals.{Free, FirstOrNone};
-ghost use Rattle.memory.specs.Meaning.Slices.{at_entry};
 ghost use Rattle.memory.specs.Working.Tests.{Tells, Splits};
 ghost use Rattle.netlist.specs.Meaning.Faults.{DesignFault};
 ghost use Rattle.format.specs.Meaning.Version.{version_of};
@@ -73,7 +72,7 @@ pub fn field_fault(image: &[u8], h: Header, found: u8, needed: u16) -> u8
     requires { (SpellsHeader image.now h)
         × ((Free (HeaderFault image.now))
         × ((FirstOrNone (DesignFault (decoded image.now)) found) × (needed ≡ version_of (decoded image.now)))) }
-    ensures { FirstOrNone (ImageFault (at_entry image)) result }
+    ensures { FirstOrNone (ImageFault image.now) result }
 {
     if found == 5 {
         return 5;
@@ -104,7 +103,7 @@ pub fn field_fault(image: &[u8], h: Header, found: u8, needed: u16) -> u8
 // The number that the bits from `end` to the end of the image's last byte spell.
 fn pad(image: &[u8], end: usize, bytes: usize) -> u16
     requires { (end ≤ 8 * bytes) × ((8 * bytes < end + 8) × (bytes ≤ 2048)) }
-    ensures { result ≡ field_at (at_entry image) end (8 * bytes - end) }
+    ensures { result ≡ field_at image.now end (8 * bytes - end) }
 {
     let taken = reader::run(image, end, 8 * bytes - end, 0, 0, 0, 0);
     taken.first
@@ -113,7 +112,7 @@ fn pad(image: &[u8], end: usize, bytes: usize) -> u16
 // Whether the second net of some cell that reads one net is above `most`; there are `count` cells.
 fn unread_above(image: &[u8], count: usize, most: u16) -> bool
     requires { (count ≡ count_in image.now) × (count < 2 ^ count_bits) }
-    ensures { Splits result (UnreadAbove (at_entry image) most) (UnreadBelow (at_entry image) most (count_in (at_entry image))) }
+    ensures { Splits result (UnreadAbove image.now most) (UnreadBelow image.now most (count_in image.now)) }
 {
     let mut i = 0;
     while i < count {

@@ -1,14 +1,13 @@
 // The fields of an image, each where the format has it.
 ghost use Rattle.std.specs.Prelude.{◌≡◌, cond, eqb, ◌+◌, ◌*◌, ◌^◌, ◌<◌, ◌≤◌};
 ghost use Rattle.limits.specs.Meaning.Layout.{count_bits, net_bits, nets_each, tails_for, bits_for, bytes_for};
-ghost use Rattle.memory.specs.Meaning.Slices.{at_entry};
 ghost use Rattle.format.specs.Meaning.Format.{count_in, cell_at, tail_in};
 ghost use Rattle.format.specs.Working.Scanning.{SpellsHeader, Narrow, SpellsCell};
 
 use limits::Image;
 
 // The fields of the header.
-#[derive(Drop)]
+#[derive(Clone, Copy)]
 pub struct Header {
     pub version: u16,
     pub inputs: u16,
@@ -18,7 +17,7 @@ pub struct Header {
 }
 
 pub fn header_of(image: &[u8]) -> Header
-    ensures { SpellsHeader (at_entry image) result }
+    ensures { SpellsHeader image.now result }
 {
     let size = Image::SIZE_BITS;
     let taken = reader::run(image, 0, size, size, size, size, Image::COUNT_BITS);
@@ -84,7 +83,7 @@ pub fn bytes(h: Header) -> usize
 }
 
 // The fields of a cell.
-#[derive(Drop)]
+#[derive(Clone, Copy)]
 pub struct CellFields {
     pub kind: u16,
     pub first: u16,
@@ -93,7 +92,7 @@ pub struct CellFields {
 
 pub fn cell(image: &[u8], i: usize) -> CellFields
     requires { i < 2 ^ count_bits }
-    ensures { SpellsCell (at_entry image) i result }
+    ensures { SpellsCell image.now i result }
 {
     let at = Image::HEADER_BITS + Image::CELL_BITS * i;
     let taken = reader::run(
@@ -115,7 +114,7 @@ pub fn cell(image: &[u8], i: usize) -> CellFields
 // Net t behind the cells, of which there are `count`.
 pub fn tail(image: &[u8], count: usize, t: usize) -> u16
     requires { (count ≡ count_in image.now) × ((count < 2 ^ count_bits) × (t < 2 ^ net_bits)) }
-    ensures { result ≡ tail_in (at_entry image) t }
+    ensures { result ≡ tail_in image.now t }
 {
     let at = tail_at(count, t);
     let taken = reader::run(image, at, Image::NET_BITS, 0, 0, 0, 0);

@@ -1,6 +1,5 @@
 // Which version the image of a design has.
 ghost use Rattle.std.specs.Prelude.{◌≡◌};
-ghost use Rattle.memory.specs.Meaning.Slices.{at_entry};
 ghost use Rattle.format.specs.Meaning.Version.{plain_to, version_of};
 
 use netlist::Design;
@@ -18,7 +17,7 @@ pub fn version_of(d: Design) -> u16
 }
 
 fn plain_to(enable: &[u16], clear: &[u16], n: usize) -> bool
-    ensures { result ≡ plain_to (at_entry enable) (at_entry clear) n }
+    ensures { result ≡ plain_to enable.now clear.now n }
 {
     let mut k = 0;
     while k < n {

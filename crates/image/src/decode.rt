@@ -1,6 +1,5 @@
 // The design that an image spells.
 ghost use Rattle.std.specs.Prelude.{◌≡◌, ◌+◌, ◌*◌, ◌^◌, ◌<◌, ◌≤◌, length};
-ghost use Rattle.memory.specs.Meaning.Slices.{at_entry, at_exit};
 ghost use Rattle.memory.specs.Working.Filling.{Filled};
 ghost use Rattle.limits.specs.Meaning.Limits.{most_outputs, most_cells};
 ghost use Rattle.limits.specs.Meaning.Layout.{count_bits, kind_bits, nets_each};
@@ -18,7 +17,7 @@ use netlist::{Cell, Design, Gate};
 
 pub(crate) fn decode(image: &[u8], h: Header) -> Design
     requires { (SpellsHeader image.now h) × (WithinLimits image.now) }
-    ensures { result ≡ decoded (at_entry image) }
+    ensures { result ≡ decoded image.now }
 {
     let count = h.count as usize;
     let latches = h.latches as usize;
@@ -66,7 +65,7 @@ pub(crate) fn empty() -> Design
 // The cells of an image, blank beyond them.
 fn cells_of(image: &[u8], count: usize) -> [Cell; Image::MOST_CELLS]
     requires { count ≤ most_cells }
-    ensures { Filled (cell_in (at_entry image)) blank_cell most_cells count result }
+    ensures { Filled (cell_in image.now) blank_cell most_cells count result }
 {
     let mut cells = [Cell { gate: Gate::Buf(0) }; Image::MOST_CELLS];
     let mut i = 0;
@@ -81,7 +80,7 @@ fn cells_of(image: &[u8], count: usize) -> [Cell; Image::MOST_CELLS]
 
 fn gate_at(image: &[u8], i: usize) -> Gate
     requires { i < most_cells }
-    ensures { result ≡ gate_in (at_entry image) i }
+    ensures { result ≡ gate_in image.now i }
 {
     let cell = fields::cell(image, i);
     gate_of(cell.kind, cell.first, cell.second)
@@ -120,7 +119,7 @@ fn two_nets(kind: u16, a: u16, b: u16) -> Gate
 fn take_nets(image: &[u8], count: usize, t: usize, step: usize, n: usize, nets: &mut [u16])
     requires { ((count ≡ count_in image.now) × (count < 2 ^ count_bits))
         × ((t ≤ most_tails) × ((step ≤ nets_each 2) × ((n ≤ most_outputs) × (n ≤ length nets.old)))) }
-    ensures { Takes (λ k. tail_in (at_entry image) (step * k + t)) n (at_entry nets) (at_exit nets) }
+    ensures { Takes (λ k. tail_in image.now (step * k + t)) n nets.old nets.new }
 {
     let mut k = 0;
     while k < n {

@@ -2,13 +2,12 @@
 mod decode;
 
 ghost use Rattle.std.specs.Prelude.{◌≡◌};
-ghost use Rattle.memory.specs.Meaning.Slices.{at_entry};
 ghost use Rattle.image.specs.Meaning.Reading.{Measures, ReadsImage, empty_design};
 
 use format::{faults, fields, version};
 use netlist::Design;
 
-#[derive(Drop)]
+#[derive(Clone, Copy)]
 pub enum Length {
     Bytes(usize),
     Refused(u8),
@@ -16,7 +15,7 @@ pub enum Length {
 
 // How many bytes the image at the front of a slice takes. What follows it is not looked at, so that images can stand back to back.
 pub fn length_of(image: &[u8]) -> Length
-    ensures { Measures (at_entry image) result }
+    ensures { Measures image.now result }
 {
     let h = fields::header_of(image);
     let number = faults::header_fault(image.len(), h);
@@ -26,14 +25,14 @@ pub fn length_of(image: &[u8]) -> Length
     Length::Bytes(fields::bytes(h))
 }
 
-#[derive(Drop)]
+#[derive(Clone, Copy)]
 pub enum Answer {
     Accepted,
     Refused(u8),
 }
 
 // An answer, and beside it the design, or the empty one.
-#[derive(Drop)]
+#[derive(Clone, Copy)]
 pub struct Reading {
     pub answer: Answer,
     pub design: Design,
@@ -41,7 +40,7 @@ pub struct Reading {
 
 // The design that an image spells.
 pub fn read(image: &[u8]) -> Reading
-    ensures { ReadsImage (at_entry image) result }
+    ensures { ReadsImage image.now result }
 {
     let h = fields::header_of(image);
     let number = faults::header_fault(image.len(), h);

@@ -1,6 +1,5 @@
 // What the program `inspect` does with its input: one image is read, and its sizes or its refusal written as a line.
 ghost use Rattle.std.specs.Prelude.{◌≡◌, ◌≤◌, length};
-ghost use Rattle.memory.specs.Meaning.Slices.{at_entry, at_exit};
 ghost use Rattle.pieces.specs.Meaning.Pieces.{Printed};
 ghost use Rattle.streams.specs.Meaning.Input.{Within};
 ghost use Rattle.streams.specs.Meaning.Output.{Sends};
@@ -14,7 +13,7 @@ use streams::{Input, Output};
 // The room has one byte more than the largest image, so that bytes left over are noticed.
 pub fn answer(room: &[u8], input: Input, text: &mut [u8]) -> Output
     requires { (length room.now ≡ most_read) × (Within input room.now) × (120 ≤ length text.old) }
-    ensures { Sends unread_message Inspects input (at_entry room) (at_exit text) result.stream result.length }
+    ensures { Sends unread_message Inspects input room.now text.new result.stream result.length }
 {
     let Input::Read(n) = input else {
         return streams::put_unread(b"inspect: standard input cannot be read\n", text);
@@ -33,7 +32,7 @@ pub fn answer(room: &[u8], input: Input, text: &mut [u8]) -> Output
 // The sizes of a design, in one line.
 fn put_sizes(design: Design, text: &mut [u8]) -> usize
     requires { 120 ≤ length text.old }
-    ensures { Printed (sizes_text design) (at_exit text) result }
+    ensures { Printed (sizes_text design) text.new result }
 {
     let inputs = pieces::put_field(b"INPUTS ", design.inputs as usize, text, 0);
     let outputs = pieces::put_field(b" OUTPUTS ", design.outputs as usize, text, inputs);

@@ -10,7 +10,7 @@ use limits::Image;
 use netlist::Design;
 
 // Which cells are dead, and how many are kept.
-#[derive(Drop)]
+#[derive(Clone, Copy)]
 pub struct Found {
     pub dead: [bool; Image::MOST_CELLS],
     pub kept: usize,

@@ -2,7 +2,7 @@
 ghost use Rattle.limits.specs.Meaning.Bounds.{AreLimits};
 
 // The image format: the limits of its sizes, the widths of its fields and the bytes of the largest image, named once.
-#[derive(Drop)]
+#[derive(Clone, Copy)]
 pub struct Image {}
 
 impl Image {
@@ -54,7 +54,7 @@ impl Image {
     }
 }
 
-#[derive(Drop)]
+#[derive(Clone, Copy)]
 pub struct Limits {
     pub inputs: usize,
     pub latches: usize,

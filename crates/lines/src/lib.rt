@@ -2,7 +2,6 @@
 //
 // A text is scanned from the front. Numbers of any length are read; from CAP on they are not told apart, since every limit is lower.
 ghost use Rattle.std.specs.Prelude.{◌≡◌, ◌<◌, ◌≤◌, length, drop};
-ghost use Rattle.memory.specs.Meaning.Slices.{at_entry, length_at_entry};
 ghost use Rattle.lines.specs.Meaning.Spelling.{digit};
 ghost use Rattle.lines.specs.Working.Scanning.{cap, NumberAt, FieldAt};
 ghost use Rattle.lines.specs.Working.Rows.{RowAt};
@@ -10,7 +9,7 @@ ghost use Rattle.lines.specs.Working.Rows.{RowAt};
 const CAP: u16 = 1024;
 
 // The numbers of a line, 0 for those that it does not have, and the place behind it.
-#[derive(Drop)]
+#[derive(Clone, Copy)]
 pub struct Row {
     pub count: usize,
     pub first: u16,
@@ -22,8 +21,8 @@ pub struct Row {
 // The line of up to three numbers up to `most` at a place; count 0 where there is none.
 pub fn scan(text: &[u8], at: usize, most: u16) -> Row
     requires { (at ≤ length text.now) × (most < cap) }
-    ensures { RowAt most (drop at (at_entry text)) result.count result.first result.second result.third (drop result.end (at_entry text))
-        × (result.end ≤ length_at_entry text) }
+    ensures { RowAt most (drop at text.now) result.count result.first result.second result.third (drop result.end text.now)
+        × (result.end ≤ length text.now) }
 {
     let a = take(text, at);
     if a.value > most {
@@ -76,7 +75,7 @@ fn no_row() -> Row
 }
 
 // A number, the byte behind it, and the place behind that byte.
-#[derive(Drop)]
+#[derive(Clone, Copy)]
 pub struct Taken {
     pub value: u16,
     pub stop: u8,
@@ -86,7 +85,7 @@ pub struct Taken {
 // The number at a place with its space or line feed; stop byte 0 where there is none.
 pub fn take(text: &[u8], at: usize) -> Taken
     requires { at ≤ length text.now }
-    ensures { FieldAt (drop at (at_entry text)) result.value result.stop (drop result.end (at_entry text)) × (result.end ≤ length_at_entry text) }
+    ensures { FieldAt (drop at text.now) result.value result.stop (drop result.end text.now) × (result.end ≤ length text.now) }
 {
     let n = digits(text, at);
     let end = n.end;
@@ -125,7 +124,7 @@ fn none() -> Taken
     }
 }
 
-#[derive(Drop)]
+#[derive(Clone, Copy)]
 struct Run {
     value: u16,
     end: usize,
@@ -134,7 +133,7 @@ struct Run {
 // The number that the digits from a place on spell, and where they end.
 fn digits(text: &[u8], at: usize) -> Run
     requires { at ≤ length text.now }
-    ensures { NumberAt (at_entry text) at result.value result.end }
+    ensures { NumberAt text.now at result.value result.end }
 {
     let mut n: u16 = 0;
     let mut i = at;

@@ -1,7 +1,6 @@
 // The states that one design may be in, as marks, and where a list of vectors moves them.
 ghost use Rattle.std.specs.Prelude.{ℕ, ◌+◌, ◌*◌, ◌<◌, ◌≤◌, length, get_or};
 ghost use Rattle.std.proofs.Math.Seq.{slice};
-ghost use Rattle.memory.specs.Meaning.Slices.{at_entry};
 ghost use Rattle.machine.specs.Meaning.Lists.{run};
 ghost use Rattle.marks.specs.Working.{next_of, Leading, Successors};
 
@@ -19,7 +18,7 @@ pub fn spread(
     requires from_le_to { from ≤ to }
     requires to_in_bounds { to ≤ length list.now }
     requires by_index { (i : ℕ) → from ≤ i → i < to → get_or list.now i 0 < vectors }
-    ensures { Successors (λ s. run (next_of vectors (at_entry next)) s (slice from to (at_entry list))) states marks result }
+    ensures { Successors (λ s. run (next_of vectors next.now) s (slice from to list.now)) states marks result }
 {
     let mut current = marks;
     let mut i = from;
@@ -42,7 +41,7 @@ fn successors(
 ) -> [bool; 128]
     requires leading { Leading states vectors next.now }
     requires v_lt_vectors { v < vectors }
-    ensures { Successors (λ s. get_or (at_entry next) (s * vectors + v) 0) states marks result }
+    ensures { Successors (λ s. get_or next.now (s * vectors + v) 0) states marks result }
 {
     let mut out = [false; 128];
     let mut s = 0;

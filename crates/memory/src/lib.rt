@@ -1,13 +1,13 @@
 // Slices that a caller lends, and the numbers by which a call is turned away.
-ghost use Rattle.std.specs.Prelude.{◌≡◌, ◌<◌, min};
-ghost use Rattle.memory.specs.Meaning.Slices.{length_at_entry, at_exit, Cleared};
+ghost use Rattle.std.specs.Prelude.{◌≡◌, ◌<◌, min, length};
+ghost use Rattle.memory.specs.Meaning.Slices.{Cleared};
 ghost use Rattle.memory.specs.Meaning.Orders.{table_order};
 ghost use Rattle.memory.specs.Meaning.Refusals.{earlier_number};
 ghost use Rattle.memory.specs.Working.Lowest.{place_in};
 
 // Every byte becomes 0.
 pub fn clear_bytes(bytes: &mut [u8])
-    ensures { Cleared (length_at_entry bytes) (at_exit bytes) }
+    ensures { Cleared (length bytes.old) bytes.new }
 {
     let mut i = 0;
     while i < bytes.len() {
@@ -18,7 +18,7 @@ pub fn clear_bytes(bytes: &mut [u8])
 
 // Every number becomes 0.
 pub fn clear_numbers(numbers: &mut [u16])
-    ensures { Cleared (length_at_entry numbers) (at_exit numbers) }
+    ensures { Cleared (length numbers.old) numbers.new }
 {
     let mut i = 0;
     while i < numbers.len() {
@@ -29,8 +29,8 @@ pub fn clear_numbers(numbers: &mut [u16])
 
 // Both scratch slices, one of bytes and one of numbers, become 0 throughout.
 pub fn clear_scratch(depth: &mut [u8], reach: &mut [u16])
-    ensures cleared { Cleared (length_at_entry depth) (at_exit depth) }
-    ensures cleared_2 { Cleared (length_at_entry reach) (at_exit reach) }
+    ensures cleared { Cleared (length depth.old) depth.new }
+    ensures cleared_2 { Cleared (length reach.old) reach.new }
 {
     clear_bytes(depth);
     clear_numbers(reach);
@@ -38,9 +38,9 @@ pub fn clear_scratch(depth: &mut [u8], reach: &mut [u16])
 
 // The three table slices of a design become 0 throughout.
 pub fn clear_table(next: &mut [u8], out: &mut [u8], seen: &mut [u8])
-    ensures cleared { Cleared (length_at_entry next) (at_exit next) }
-    ensures cleared_2 { Cleared (length_at_entry out) (at_exit out) }
-    ensures cleared_3 { Cleared (length_at_entry seen) (at_exit seen) }
+    ensures cleared { Cleared (length next.old) next.new }
+    ensures cleared_2 { Cleared (length out.old) out.new }
+    ensures cleared_3 { Cleared (length seen.old) seen.new }
 {
     clear_bytes(next);
     clear_bytes(out);

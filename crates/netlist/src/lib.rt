@@ -1,12 +1,11 @@
 // Netlists: gates, cells and designs.
 ghost use Rattle.std.specs.Prelude.{◌≡◌, get_or};
-ghost use Rattle.memory.specs.Meaning.Slices.{at_entry};
 ghost use Rattle.netlist.specs.Meaning.Gates.{kind_of, first_of, second_of};
 
 use limits::Image;
 
 // A gate with exactly the nets that its kind reads.
-#[derive(Drop)]
+#[derive(Clone, Copy)]
 pub enum Gate {
     Buf(u16),
     Not(u16),
@@ -18,7 +17,7 @@ pub enum Gate {
     Xnor(u16, u16),
 }
 
-#[derive(Drop)]
+#[derive(Clone, Copy)]
 pub struct Cell {
     pub gate: Gate,
 }
@@ -26,7 +25,7 @@ pub struct Cell {
 // Nets 0 and 1 are the constants; then come the inputs, the flip-flops and the cells in order. At the clock a flip-flop becomes 0
 // where the value of its clear net is 1, else takes that of its data net where that of its enable net is 1, else holds its bit. An
 // output shows the value of its net.
-#[derive(Drop)]
+#[derive(Clone, Copy)]
 pub struct Design {
     pub inputs: u8,
     pub latches: u8,
@@ -41,7 +40,7 @@ pub struct Design {
 
 // The net number at a place of a list, 0 past its end.
 pub fn net_at(nets: &[u16], k: usize) -> usize
-    ensures { result ≡ get_or (at_entry nets) k 0 }
+    ensures { result ≡ get_or nets.now k 0 }
 {
     if nets.len() <= k {
         return 0;

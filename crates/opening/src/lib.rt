@@ -1,9 +1,9 @@
 // What a map, and a call for one pair, does first: it takes the lengths of the slices that it is lent, looks for what turns it away, and
 // clears them.
+ghost use Rattle.std.specs.Prelude.{length};
 ghost use Rattle.memory.specs.Meaning.Refusals.{FirstOrNone};
-ghost use Rattle.memory.specs.Meaning.Slices.{at_entry};
 ghost use Rattle.machine.specs.Meaning.Faults.{VectorsFault, StateFault};
-ghost use Rattle.machine.specs.Meaning.Lent.{lengths_at_entry, scratch_of, room_of, left_at_exit};
+ghost use Rattle.machine.specs.Meaning.Lent.{scratch_of, room_of, lent_of, left_of};
 ghost use Rattle.table_faults.specs.Working.{ForTables};
 ghost use Rattle.opening.specs.Working.{Emptied};
 
@@ -20,9 +20,9 @@ pub fn begin_map(
     reach: &mut [u16],
     mark: &mut [u8],
 ) -> u8
-    ensures for_tables { ForTables sizes (at_entry old_next) (at_entry new_next) old_shown new_shown
-        (λ t. FirstOrNone (VectorsFault t (room_of (lengths_at_entry depth reach mark))) result) }
-    ensures emptied { Emptied (lengths_at_entry depth reach mark) (left_at_exit depth reach mark) }
+    ensures for_tables { ForTables sizes old_next.now new_next.now old_shown new_shown
+        (λ t. FirstOrNone (VectorsFault t (room_of (lent_of (length depth.old) (length reach.old) (length mark.old)))) result) }
+    ensures emptied { Emptied (lent_of (length depth.old) (length reach.old) (length mark.old)) (left_of depth.new reach.new mark.new) }
 {
     let room = memory::shorter(mark.len(), memory::shorter(depth.len(), reach.len()));
     let n = table_faults::vectors_fault(old_next, new_next, sizes, old_shown, new_shown, room);
@@ -42,9 +42,9 @@ pub fn begin_pair(
     reach: &mut [u16],
     list: &mut [u8],
 ) -> u8
-    ensures for_tables { ForTables sizes (at_entry old_next) (at_entry new_next) old_shown new_shown
-        (λ t. FirstOrNone (StateFault t (scratch_of (lengths_at_entry depth reach list)) pair) result) }
-    ensures emptied { Emptied (lengths_at_entry depth reach list) (left_at_exit depth reach list) }
+    ensures for_tables { ForTables sizes old_next.now new_next.now old_shown new_shown
+        (λ t. FirstOrNone (StateFault t (scratch_of (lent_of (length depth.old) (length reach.old) (length list.old))) pair) result) }
+    ensures emptied { Emptied (lent_of (length depth.old) (length reach.old) (length list.old)) (left_of depth.new reach.new list.new) }
 {
     let room = memory::shorter(depth.len(), reach.len());
     let n = pair_fault(old_next, new_next, sizes, old_shown, new_shown, pair, room);
@@ -54,7 +54,7 @@ pub fn begin_pair(
 
 // Every lent slice becomes 0 throughout.
 fn clear_lent(depth: &mut [u8], reach: &mut [u16], written: &mut [u8])
-    ensures { Emptied (lengths_at_entry depth reach written) (left_at_exit depth reach written) }
+    ensures { Emptied (lent_of (length depth.old) (length reach.old) (length written.old)) (left_of depth.new reach.new written.new) }
 {
     memory::clear_scratch(depth, reach);
     memory::clear_bytes(written);
@@ -70,7 +70,7 @@ fn pair_fault(
     pair: Pair,
     room: usize,
 ) -> u8
-    ensures { ForTables sizes (at_entry old_next) (at_entry new_next) old_shown new_shown (λ t. FirstOrNone (StateFault t room pair) result) }
+    ensures { ForTables sizes old_next.now new_next.now old_shown new_shown (λ t. FirstOrNone (StateFault t room pair) result) }
 {
     let n = table_faults::call_fault(old_next, new_next, sizes, old_shown, new_shown, room);
     if n != 0 {

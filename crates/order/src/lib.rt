@@ -4,7 +4,7 @@
 // placed, each of those left reads one of them, so some of them lie on a loop.
 ghost use Rattle.std.specs.Prelude.{◌≡◌, true, false, ◌+◌, ◌-◌, ◌<◌, get_or};
 ghost use Rattle.memory.specs.Meaning.Refusals.{FirstOrNone};
-ghost use Rattle.memory.specs.Meaning.Slices.{at_entry, Zero};
+ghost use Rattle.memory.specs.Meaning.Slices.{Zero};
 ghost use Rattle.netlist.specs.Meaning.Gates.{first_of, second_of};
 ghost use Rattle.limits.specs.Meaning.Limits.{most_cells};
 ghost use Rattle.netlist.specs.Meaning.Faults.{DesignFault};
@@ -24,7 +24,7 @@ pub fn fault_of(d: Design) -> u8
 }
 
 // The lowest number that applies to a design, or 0 and an order of its kept cells.
-#[derive(Drop)]
+#[derive(Clone, Copy)]
 pub struct Plan {
     pub number: u8,
     pub kept: usize,
@@ -103,7 +103,7 @@ fn next_ready(d: Design, marks: [bool; Image::MOST_CELLS]) -> usize
 
 fn ready_gate(base: usize, marks: &[bool; Image::MOST_CELLS], g: Gate) -> bool
     requires { (first_of g < base + most_cells) × (second_of g < base + most_cells) }
-    ensures { result ≡ ready_gate base (λ j. get_or (at_entry marks) j false) g }
+    ensures { result ≡ ready_gate base (λ j. get_or marks.now j false) g }
 {
     let one = ready(base, marks, netlist::first_of(g));
     let two = ready(base, marks, netlist::second_of(g));
@@ -113,7 +113,7 @@ fn ready_gate(base: usize, marks: &[bool; Image::MOST_CELLS], g: Gate) -> bool
 // Whether a net is driven by no cell, or by a marked one.
 fn ready(base: usize, marks: &[bool; Image::MOST_CELLS], net: u16) -> bool
     requires { net < base + most_cells }
-    ensures { result ≡ ready_net base (λ j. get_or (at_entry marks) j false) net }
+    ensures { result ≡ ready_net base (λ j. get_or marks.now j false) net }
 {
     let n = net as usize;
     if n < base {

@@ -16,7 +16,7 @@ use limits::Image;
 use netlist::{Design, Gate};
 
 // The fields of an image, packed.
-#[derive(Drop)]
+#[derive(Clone, Copy)]
 pub struct Words {
     pub header: u32,
     pub cells: [u32; Image::MOST_CELLS],

@@ -4,7 +4,7 @@ ghost use Rattle.machine.specs.Meaning.Allowed.{every_vector};
 ghost use Rattle.panel.specs.Meaning.Panel.{allowed_by};
 
 // Which vectors can occur at the inputs: every one, or those that a number allows.
-#[derive(Drop)]
+#[derive(Clone, Copy)]
 pub enum Panel {
     Every,
     Named(u64),

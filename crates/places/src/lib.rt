@@ -1,7 +1,6 @@
 // Places in tables and maps: entries, numbers of pairs, the pair after a step, and the step before an entry of a list; and which vectors
 // are allowed.
 ghost use Rattle.std.specs.Prelude.{◌≡◌, ◌<◌, ◌≤◌, length, get_or, take};
-ghost use Rattle.memory.specs.Meaning.Slices.{at_entry};
 ghost use Rattle.machine.specs.declared.Prior.{Prior};
 ghost use Rattle.machine.specs.Meaning.Pick.{after};
 ghost use Rattle.machine.specs.Meaning.Tables.{pairs, at, In, Ok};
@@ -25,7 +24,7 @@ pub fn place_of(s: usize, v: usize, n: usize, m: usize) -> usize
 // The byte at a place, as a number.
 pub fn byte_at(t: &[u8], i: usize) -> usize
     requires { i < length t.now }
-    ensures { result ≡ get_or (at_entry t) i 0 }
+    ensures { result ≡ get_or t.now i 0 }
 {
     t[i] as usize
 }
@@ -33,7 +32,7 @@ pub fn byte_at(t: &[u8], i: usize) -> usize
 // The 16-bit number at a place, as a number.
 pub fn number_at(d: &[u16], i: usize) -> usize
     requires { i < length d.now }
-    ensures { result ≡ get_or (at_entry d) i 0 }
+    ensures { result ≡ get_or d.now i 0 }
 {
     d[i] as usize
 }
@@ -78,7 +77,7 @@ pub fn next(old_next: &[u8], new_next: &[u8], sizes: Sizes, p: Pair, v: usize) -
     requires nexts { Nexts sizes old_next.now new_next.now }
     requires fact { In sizes p }
     requires v_lt_vectors { v < sizes.vectors }
-    ensures { (result ≡ move sizes (at_entry old_next) (at_entry new_next) p v) × In sizes result }
+    ensures { (result ≡ move sizes old_next.now new_next.now p v) × In sizes result }
 {
     let i = place_of(p.old, v, sizes.old, sizes.vectors);
     let j = place_of(p.new, v, sizes.new, sizes.vectors);
@@ -92,7 +91,7 @@ pub fn map_at(sizes: Sizes, map: &[u16], p: Pair) -> usize
     requires few { Few sizes }
     requires fact { In sizes p }
     requires sizes_in_bounds { pairs sizes ≤ length map.now }
-    ensures { result ≡ at sizes (at_entry map) p }
+    ensures { result ≡ at sizes map.now p }
 {
     let i = place_of(p.old, p.new, sizes.old, sizes.new);
     number_at(map, i)
@@ -101,7 +100,7 @@ pub fn map_at(sizes: Sizes, map: &[u16], p: Pair) -> usize
 // What comes before entry n of a list that nothing comes before.
 pub fn prior_at(list: &[u8], n: usize) -> Prior
     requires { n ≤ length list.now }
-    ensures { result ≡ after Prior.Start (take n (at_entry list)) }
+    ensures { result ≡ after Prior.Start (take n list.now) }
 {
     if n == 0 {
         return Prior::Start;

@@ -1,9 +1,8 @@
 // Records of a recording, and the states that they leave possible.
 //
 // Every clock of a design is tabulated once; a record then costs a look into the table for each possible state.
-ghost use Rattle.std.specs.Prelude.{◌≡◌, ◌+◌, ◌*◌, ◌%◌, ◌<◌, ◌≤◌, min, false, get_or};
+ghost use Rattle.std.specs.Prelude.{◌≡◌, ◌+◌, ◌*◌, ◌%◌, ◌<◌, ◌≤◌, min, false, get_or, length};
 ghost use Rattle.numbers.specs.Meaning.Count.{count};
-ghost use Rattle.memory.specs.Meaning.Slices.{at_entry, at_exit, length_at_entry};
 ghost use Rattle.memory.specs.Working.Filling.{Filled};
 ghost use Rattle.memory.specs.Working.Tests.{Tells};
 ghost use Rattle.netlist.specs.Meaning.Nets.{states_of, vectors_of};
@@ -26,7 +25,7 @@ pub const MOST_STATES: usize = 1 << Image::MOST_LATCHES;
 pub const MOST_ENTRIES: usize = (MOST_STATES << Image::MOST_INPUTS) + MOST_STATES;
 
 // How many states, vectors and values of the outputs a design has.
-#[derive(Drop)]
+#[derive(Clone, Copy)]
 pub struct Sizes {
     pub states: usize,
     pub vectors: usize,
@@ -34,7 +33,7 @@ pub struct Sizes {
 }
 
 // The fields of a record.
-#[derive(Drop)]
+#[derive(Clone, Copy)]
 pub struct Record {
     pub input: usize,
     pub output: usize,
@@ -93,7 +92,7 @@ pub fn spoils(sizes: Sizes, fields: Record) -> bool
 // The entry of a state in a row of a table. Of its byte the last seven bits count: a state has no more.
 fn entry_of(table: &[u16; MOST_ENTRIES], row: usize, state: u8) -> usize
     requires { row + most_states ≤ most_entries }
-    ensures { result ≡ get_or (at_entry table) (row + state % most_states) 0 }
+    ensures { result ≡ get_or table.now (row + state % most_states) 0 }
 {
     number(table[row + wide(state) % MOST_STATES])
 }
@@ -114,7 +113,7 @@ pub fn advance(
     output: usize,
 ) -> usize
     requires { input < 64 }
-    ensures { length_at_entry states ≡ most_states → Moves (at_entry table) (input * most_states) output (min n most_states) (at_entry states) (at_exit states) result }
+    ensures { length states.old ≡ most_states → Moves table.now (input * most_states) output (min n most_states) states.old states.new result }
 {
     let row = input * MOST_STATES;
     let end = memory::shorter(n, MOST_STATES);

@@ -1,6 +1,5 @@
 // The sizes and the net numbers of a design in memory: 3 and 5.
 ghost use Rattle.std.specs.Prelude.{◌≡◌, ℕ, ◌+◌, ◌<◌, ◌≤◌, get_or};
-ghost use Rattle.memory.specs.Meaning.Slices.{at_entry};
 ghost use Rattle.memory.specs.Working.Tests.{Tells, Splits};
 ghost use Rattle.netlist.specs.Meaning.Faults.{DesignFault};
 ghost use Rattle.netlist.specs.Working.Sound.{Within, NetsBelow};
@@ -76,7 +75,7 @@ fn cell_net_over(d: Design, nets: usize) -> bool
 // Whether one of the first n numbers of a list is no net.
 pub fn listed_net_over(list: &[u16], n: usize, nets: usize) -> bool
     requires { 0 < nets }
-    ensures { Splits result ((k : ℕ) × (k < n) × (nets ≤ get_or (at_entry list) k 0)) ((k : ℕ) → k < n → get_or (at_entry list) k 0 < nets) }
+    ensures { Splits result ((k : ℕ) × (k < n) × (nets ≤ get_or list.now k 0)) ((k : ℕ) → k < n → get_or list.now k 0 < nets) }
 {
     let mut k = 0;
     while k < n {

@@ -1,11 +1,10 @@
 // Bits and bit fields of an image, and the reader that knows its bytes and its bit position.
 ghost use Rattle.std.specs.Prelude.{◌≡◌, ◌^◌, ◌<◌, ◌≤◌};
-ghost use Rattle.memory.specs.Meaning.Slices.{at_entry};
 ghost use Rattle.reader.specs.Meaning.Fields.{bit_at, field_at};
 ghost use Rattle.reader.specs.Working.Taking.{opened, taken, run_at};
 
 // The numbers of five fields that stand in a row.
-#[derive(Drop)]
+#[derive(Clone, Copy)]
 pub struct Numbers {
     pub first: u16,
     pub second: u16,
@@ -17,7 +16,7 @@ pub struct Numbers {
 // Takes five fields one behind the other, from bit `at` on; a field of no bits is 0. Whoever calls this has plain parameters.
 pub fn run(image: &[u8], at: usize, a: usize, b: usize, c: usize, d: usize, e: usize) -> Numbers
     requires { (at < 65472) × ((a ≤ 16) × ((b ≤ 16) × ((c ≤ 16) × ((d ≤ 16) × (e ≤ 16))))) }
-    ensures { result ≡ run_at (at_entry image) at a b c d e }
+    ensures { result ≡ run_at image.now at a b c d e }
 {
     let one = open(image, at).take(a);
     let two = one.take(b);
@@ -35,7 +34,7 @@ pub fn run(image: &[u8], at: usize, a: usize, b: usize, c: usize, d: usize, e: u
 
 // An image, a bit position in it, and the number of the field that was taken last: `take` hands back one value, by which the next field is
 // taken.
-#[derive(Drop)]
+#[derive(Clone, Copy)]
 pub struct BitReader<'a> {
     pub image: &'a [u8],
     pub at: usize,
@@ -70,7 +69,7 @@ pub fn open<'a>(image: &'a [u8], at: usize) -> BitReader<'a>
 // The number that `width` bits of a slice spell.
 fn spell(image: &[u8], at: usize, width: usize) -> u16
     requires { (at < 65536) × (width ≤ 16) }
-    ensures { (result ≡ field_at (at_entry image) at width) × (result < 2 ^ width) }
+    ensures { (result ≡ field_at image.now at width) × (result < 2 ^ width) }
 {
     let mut n: u16 = 0;
     let mut k: usize = 0;
@@ -83,7 +82,7 @@ fn spell(image: &[u8], at: usize, width: usize) -> u16
 
 // Bit i of the image, 0 past its end.
 fn bit(image: &[u8], i: usize) -> u16
-    ensures { result ≡ bit_at (at_entry image) i }
+    ensures { result ≡ bit_at image.now i }
 {
     let k = i / 8;
     if k < image.len() {

@@ -2,7 +2,6 @@
 //
 // A recording is taken byte by byte, so that it can be handed in by parts of any length.
 ghost use Rattle.std.specs.Prelude.{◌≡◌, true, []};
-ghost use Rattle.memory.specs.Meaning.Slices.{at_entry, at_exit};
 ghost use Rattle.recording.specs.Meaning.Promise.{NoMarks, Replays};
 ghost use Rattle.recording.specs.Meaning.Parts.{Takes, Answers};
 ghost use Rattle.recording.specs.Working.Parts.{HasTaken, between, TracksOn};
@@ -12,7 +11,7 @@ use possible_states::{MOST_ENTRIES, MOST_STATES, Sizes};
 
 // How many states are possible behind the last record; or the number, from 1, of the first record that no state explains; or the number of a
 // refusal.
-#[derive(Drop)]
+#[derive(Clone, Copy)]
 pub enum Outcome {
     States(usize),
     Unexplained(usize),
@@ -20,7 +19,7 @@ pub enum Outcome {
 }
 
 // An outcome, and beside a count of states their marks; beside any other outcome no mark is set.
-#[derive(Drop)]
+#[derive(Clone, Copy)]
 pub struct Replayed {
     pub outcome: Outcome,
     pub marks: [bool; MOST_STATES],
@@ -28,7 +27,7 @@ pub struct Replayed {
 
 // Where a replay stands: how many states are possible behind so many whole records, or the number of the first record that none explains;
 // whether a bit was set that must be 0; and the first half of a record whose other half is still to come.
-#[derive(Drop)]
+#[derive(Clone, Copy)]
 pub struct Track {
     pub count: usize,
     pub records: usize,
@@ -40,7 +39,7 @@ pub struct Track {
 
 // A replay under way: the number by which its design is refused; or 0, and the states that are possible. It is made by `begin` and `feed`
 // alone: of another nothing is promised.
-#[derive(Drop)]
+#[derive(Clone, Copy)]
 pub struct Session {
     pub number: u8,
     pub sizes: Sizes,
@@ -49,7 +48,7 @@ pub struct Session {
 }
 
 // A replay that has taken nothing yet, and every clock of its design, which each part is taken by.
-#[derive(Drop)]
+#[derive(Clone, Copy)]
 pub struct Begun {
     pub session: Session,
     pub table: [u16; MOST_ENTRIES],
@@ -57,7 +56,7 @@ pub struct Begun {
 
 // Replays a whole recording.
 pub fn replay(d: Design, recording: &[u8]) -> Replayed
-    ensures { Replays d (at_entry recording) result }
+    ensures { Replays d recording.now result }
 {
     let begun = begin(d);
     let table = begun.table;
@@ -118,7 +117,7 @@ fn unready(number: u8) -> Begun
 
 // The replay that has taken the bytes of one part more.
 pub fn feed(table: &[u16; MOST_ENTRIES], r: Session, part: &[u8]) -> Session
-    ensures { Takes HasTaken (at_entry table) r (at_entry part) result }
+    ensures { Takes HasTaken table.now r part.now result }
 {
     let sizes = r.sizes;
     let mut states = r.states;
@@ -145,7 +144,7 @@ fn take_byte(
     track: Track,
     byte: u8,
 ) -> Track
-    ensures { TracksOn (at_entry table) sizes (at_entry states) track byte (at_exit states) result }
+    ensures { TracksOn table.now sizes states.old track byte states.new result }
 {
     let mut t = track;
     if t.half {
@@ -165,7 +164,7 @@ fn take_record(
     low: u8,
 ) -> Track
     requires { track.half ≡ true }
-    ensures { TracksOn (at_entry table) sizes (at_entry states) track low (at_exit states) result }
+    ensures { TracksOn table.now sizes states.old track low states.new result }
 {
     let fields = possible_states::split(track.high, low);
     let records = std::num::wrapping_add_usize(track.records, 1);

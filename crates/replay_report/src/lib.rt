@@ -1,7 +1,6 @@
 // What the program `replay` does with its input: one image is read, the recording behind it is replayed part by part, and the answer is
 // written as text. The program itself only reads and hands on.
 ghost use Rattle.std.specs.Prelude.{◌≡◌, true, false, not, ◌++◌, ◌+◌, ◌≤◌, length};
-ghost use Rattle.memory.specs.Meaning.Slices.{at_entry, at_exit};
 ghost use Rattle.memory.specs.Meaning.Refusals.{Free};
 ghost use Rattle.format.specs.Meaning.Format.{bytes_in};
 ghost use Rattle.format.specs.Meaning.Faults.{HeaderFault};
@@ -29,7 +28,7 @@ pub const TEXT: usize = 3072;
 
 // What was taken of the input: the number by which its image is refused, or 0 and the replay of what is behind it; in how many parts, and
 // whether there is more. Or why nothing can be answered: a read failed, or the input is too long.
-#[derive(Drop)]
+#[derive(Clone, Copy)]
 pub struct Taken {
     pub number: u8,
     pub session: Session,
@@ -40,14 +39,14 @@ pub struct Taken {
 }
 
 // The first part, and every clock of the design, which the other parts are taken by.
-#[derive(Drop)]
+#[derive(Clone, Copy)]
 pub struct First {
     pub taken: Taken,
     pub table: [u16; MOST_ENTRIES],
 }
 
 // What the image at the front of the input says.
-#[derive(Drop)]
+#[derive(Clone, Copy)]
 struct Front {
     pub number: u8,
     pub session: Session,
@@ -57,7 +56,7 @@ struct Front {
 // Takes the first part of the input.
 pub fn take_first(room: &[u8], input: Input) -> First
     requires { (length room.now ≡ part_bytes) × (Within input room.now) }
-    ensures { TakesFirst Opened (at_entry room) result.table result.taken input }
+    ensures { TakesFirst Opened room.now result.table result.taken input }
 {
     let Input::Read(n) = input else {
         let refused = turned_away(0);
@@ -85,7 +84,7 @@ pub fn take_first(room: &[u8], input: Input) -> First
 // Takes one part more, where there is more.
 pub fn take_part(table: &[u16; MOST_ENTRIES], taken: Taken, room: &[u8], input: Input) -> Taken
     requires { (length room.now ≡ part_bytes) × (Within input room.now) × (taken.more ≡ true) }
-    ensures { TakesPart Opened (at_entry table) taken (at_entry room) result input }
+    ensures { TakesPart Opened table.now taken room.now result input }
 {
     let before = taken.session;
     let Input::Read(n) = input else {
@@ -121,7 +120,7 @@ fn stopped(session: Session, unread: bool) -> Taken
 
 // Opens the input by its front, which is the whole of it, or is longer than any image.
 fn open(front: &[u8]) -> Front
-    ensures { Opened (at_entry front) result.table result.number result.session }
+    ensures { Opened front.now result.table result.number result.session }
 {
     let measured = image::length_of(front);
     match measured {
@@ -133,7 +132,7 @@ fn open(front: &[u8]) -> Front
 // The image at the front takes n bytes, and the rest is the recording.
 fn open_image(front: &[u8], n: usize) -> Front
     requires { (Free (HeaderFault front.now)) × (n ≡ bytes_in front.now) }
-    ensures { Opened (at_entry front) result.table result.number result.session }
+    ensures { Opened front.now result.table result.number result.session }
 {
     let reading = image::read(&front[..n]);
     let answer = reading.answer;
@@ -171,7 +170,7 @@ fn turned_away(number: u8) -> Front
 // Puts what is written of the whole input, where there is no more, into a text, for standard output; or for standard error why nothing can be answered.
 pub fn finish(taken: Taken, text: &mut [u8]) -> Output
     requires { (3072 ≤ length text.old) × (taken.more ≡ false) }
-    ensures { Ends Opened taken (at_exit text) result.stream result.length }
+    ensures { Ends Opened taken text.new result.stream result.length }
 {
     if taken.unread {
         return streams::put_unread(b"replay: standard input cannot be read\n", text);
@@ -187,7 +186,7 @@ pub fn finish(taken: Taken, text: &mut [u8]) -> Output
 // Puts the refusal of the image, or the answer to the recording, into a text.
 fn close(number: u8, session: Session, text: &mut [u8]) -> usize
     requires { 3072 ≤ length text.old }
-    ensures { (IsPrefixLen result (at_exit text)) × (Closes number session (at_exit text) result) }
+    ensures { (IsPrefixLen result text.new) × (Closes number session text.new result) }
 {
     if number != 0 {
         return pieces::put_last_field(b"REFUSED ", pieces::wide(number), text, 0);
@@ -199,7 +198,7 @@ fn close(number: u8, session: Session, text: &mut [u8]) -> usize
 // The text of an answer for a design of so many states.
 fn put_outcome(replayed: Replayed, states: usize, text: &mut [u8]) -> usize
     requires { 3072 ≤ length text.old }
-    ensures { Printed (outcome_text states replayed.outcome replayed.marks) (at_exit text) result }
+    ensures { Printed (outcome_text states replayed.outcome replayed.marks) text.new result }
 {
     let outcome = replayed.outcome;
     let marks = replayed.marks;
@@ -218,7 +217,7 @@ fn put_outcome(replayed: Replayed, states: usize, text: &mut [u8]) -> usize
 // The line of n states of so many, and a line for each marked one.
 fn put_states(n: usize, states: usize, marks: [bool; MOST_STATES], text: &mut [u8]) -> usize
     requires { 3072 ≤ length text.old }
-    ensures { Printed ((field "STATES " n ++ last_field " OF " states) ++ mark_lines marks most_states) (at_exit text) result }
+    ensures { Printed ((field "STATES " n ++ last_field " OF " states) ++ mark_lines marks most_states) text.new result }
 {
     let of = pieces::put_field(b"STATES ", n, text, 0);
     let at = pieces::put_last_field(b" OF ", states, text, of);
@@ -228,7 +227,7 @@ fn put_states(n: usize, states: usize, marks: [bool; MOST_STATES], text: &mut [u
 // A line for each marked state.
 fn put_marks(marks: [bool; MOST_STATES], text: &mut [u8], at: usize) -> usize
     requires { at + 2688 ≤ length text.old }
-    ensures { Put 2688 (mark_lines marks most_states) at (at_entry text) (at_exit text) result }
+    ensures { Put 2688 (mark_lines marks most_states) at text.old text.new result }
 {
     let mut end = at;
     let mut q = 0;

@@ -3,7 +3,6 @@
 // and perhaps a mark: `!` where it fails; `*` where its last two bytes are repeated until the room is full; `<` or `>` for the same, and
 // then it counts as the last part but one that may be taken, or as the last. Behind each read stand leftovers of those before.
 ghost use Rattle.std.specs.Prelude.{◌≡◌, ◌≤◌, length};
-ghost use Rattle.memory.specs.Meaning.Slices.{length_at_entry, at_exit};
 ghost use Rattle.streams.specs.Meaning.Input.{Within};
 ghost use Rattle.replay_report.specs.Meaning.Taking.{part_bytes};
 
@@ -37,7 +36,7 @@ fn ask_all(all: &[u8], room: &mut [u8])
 // Where the first such byte stands at or behind a place, or else the end.
 fn find(line: &[u8], from: usize, byte: u8) -> usize
     requires { from ≤ length line.now }
-    ensures { (from ≤ result) × (result ≤ length_at_entry line) }
+    ensures { (from ≤ result) × (result ≤ length line.now) }
 {
     let mut i = from;
     while i < line.len() {
@@ -83,7 +82,7 @@ fn take(reads: &[u8], room: &mut [u8]) -> Taken
 
 // Reads what stands behind a colon or comma into the room.
 fn read(text: &[u8], room: &mut [u8]) -> Input
-    ensures { Within result (at_exit room) }
+    ensures { Within result room.new }
 {
     let most = match mark(text, text.len()) {
         b'!' => return Input::Failed,

@@ -4,7 +4,6 @@ mod lines;
 mod steps;
 
 ghost use Rattle.std.specs.Prelude.{◌+◌, ◌*◌, ◌≤◌, length, take};
-ghost use Rattle.memory.specs.Meaning.Slices.{at_entry, at_exit};
 ghost use Rattle.pieces.specs.Meaning.Pieces.{Printed};
 ghost use Rattle.report.specs.Meaning.Text.{refusal_text, same_text, shown_tables, apart_in};
 ghost use Rattle.report.specs.Working.Tracing.{Small};
@@ -12,7 +11,7 @@ ghost use Rattle.report.specs.Working.Tracing.{Small};
 use machine::{Pair, Sizes};
 
 // What is printed in front of a verdict.
-#[derive(Drop)]
+#[derive(Clone, Copy)]
 pub struct Facts {
     pub inputs: usize,
     pub outputs: usize,
@@ -24,7 +23,7 @@ pub struct Facts {
 }
 
 // Whose fault it is.
-#[derive(Drop)]
+#[derive(Clone, Copy)]
 pub enum Side {
     Old,
     New,
@@ -34,7 +33,7 @@ pub enum Side {
 // A refusal: its number, and nothing else.
 pub fn put_refusal(who: Side, number: u8, text: &mut [u8]) -> usize
     requires { 40 ≤ length text.old }
-    ensures { Printed (refusal_text who number) (at_exit text) result }
+    ensures { Printed (refusal_text who number) text.new result }
 {
     let n = pieces::wide(number);
     match who {
@@ -48,7 +47,7 @@ pub fn put_refusal(who: Side, number: u8, text: &mut [u8]) -> usize
 pub fn put_same(facts: Facts, list: &[u8], n: usize, text: &mut [u8]) -> usize
     requires n_in_bounds { n ≤ length list.now }
     requires n_in_bounds_2 { 400 + 12 * n ≤ length text.old }
-    ensures { Printed (same_text facts (take n (at_entry list))) (at_exit text) result }
+    ensures { Printed (same_text facts (take n list.now)) text.new result }
 {
     let head = lines::put_head(facts, text);
     let at = pieces::put_last_field(b"SAME ", n, text, head);
@@ -72,8 +71,8 @@ pub fn put_apart(
     requires n_in_bounds { n ≤ length list.now }
     requires n_in_bounds_2 { 400 + 12 * n ≤ length text.old }
     ensures { Printed
-        (apart_in (shown_tables sizes (at_entry old_next) (at_entry old_out) (at_entry new_next) (at_entry new_out)) facts p (take n (at_entry list)))
-        (at_exit text) result }
+        (apart_in (shown_tables sizes old_next.now old_out.now new_next.now new_out.now) facts p (take n list.now))
+        text.new result }
 {
     let head = lines::put_head(facts, text);
     let at = lines::put_pair(p, n, text, head);

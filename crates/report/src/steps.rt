@@ -1,6 +1,5 @@
 // The steps of a trace over the tables of both designs.
 ghost use Rattle.std.specs.Prelude.{◌+◌, ◌*◌, ◌<◌, ◌≤◌, ◌≡◌, length, take};
-ghost use Rattle.memory.specs.Meaning.Slices.{at_entry, at_exit};
 ghost use Rattle.machine.specs.Meaning.Tables.{entry};
 ghost use Rattle.places.specs.Working.{move};
 ghost use Rattle.pieces.specs.Working.Put.{Put};
@@ -27,8 +26,8 @@ pub fn put_steps(
     requires n_in_bounds { n ≤ length list.now }
     requires n_in_bounds_2 { at + (12 * n + 51) ≤ length text.old }
     ensures { Put (12 * n)
-        (shown_in (shown_tables sizes (at_entry old_next) (at_entry old_out) (at_entry new_next) (at_entry new_out)) p (take n (at_entry list)))
-        at (at_entry text) (at_exit text) result }
+        (shown_in (shown_tables sizes old_next.now old_out.now new_next.now new_out.now) p (take n list.now))
+        at text.old text.new result }
 {
     let mut q = p;
     let mut end = at;
@@ -49,7 +48,7 @@ pub fn put_steps(
 fn next_pair(old_next: &[u8], new_next: &[u8], sizes: Sizes, p: Pair, vector: usize) -> Pair
     requires small { Small sizes p }
     requires vector_bound { vector < 256 }
-    ensures { (result ≡ move sizes (at_entry old_next) (at_entry new_next) p vector) × Small sizes result }
+    ensures { (result ≡ move sizes old_next.now new_next.now p vector) × Small sizes result }
 {
     let old = entry_at(old_next, sizes, p.old, vector);
     let new = entry_at(new_next, sizes, p.new, vector);
@@ -61,7 +60,7 @@ fn entry_at(table: &[u8], sizes: Sizes, state: usize, vector: usize) -> usize
     requires vectors_bound { sizes.vectors ≤ 64 }
     requires state_bound { state < 256 }
     requires vector_bound { vector < 256 }
-    ensures { (result ≡ entry sizes (at_entry table) state vector) × (result < 256) }
+    ensures { (result ≡ entry sizes table.now state vector) × (result < 256) }
 {
     let i = state * sizes.vectors + vector;
     if table.len() <= i {

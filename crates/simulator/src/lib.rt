@@ -1,14 +1,13 @@
 // One clock of a design, and the tables of all its clocks.
 mod tables;
 
-ghost use Rattle.memory.specs.Meaning.Slices.{at_entry};
-ghost use Rattle.memory.specs.Meaning.Tables.{table_at_exit, table_lengths_at_entry};
+ghost use Rattle.memory.specs.Meaning.Tables.{table_of, lengths_of};
 ghost use Rattle.simulator.specs.Meaning.Clock.{Clocks};
 ghost use Rattle.simulator.specs.Meaning.Tables.{Tabulates, TabulatesBoth};
 
 use netlist::Design;
 
-#[derive(Drop)]
+#[derive(Clone, Copy)]
 pub enum Clocked {
     Step { next: u8, out: u8 },
     Refused(u8),
@@ -35,7 +34,7 @@ pub fn clock(d: Design, state: usize, vector: usize) -> Clocked
     }
 }
 
-#[derive(Drop)]
+#[derive(Clone, Copy)]
 pub enum Tabulated {
     Table { states: usize, vectors: usize },
     Refused(u8),
@@ -49,7 +48,7 @@ pub fn tabulate(
     out: &mut [u8],
     seen: &mut [u8],
 ) -> Tabulated
-    ensures { Tabulates d (at_entry watch) (table_lengths_at_entry next out seen) result (table_at_exit next out seen) }
+    ensures { Tabulates d watch.now (lengths_of (table_of next.old out.old seen.old)) result (table_of next.new out.new seen.new) }
 {
     let room = memory::shorter(next.len(), memory::shorter(out.len(), seen.len()));
     let prepared = tables::prepare(d, watch, room);
@@ -64,7 +63,7 @@ pub fn tabulate(
     }
 }
 
-#[derive(Drop)]
+#[derive(Clone, Copy)]
 pub enum TabulatedBoth {
     Both {
         old: usize,
@@ -87,9 +86,9 @@ pub fn tabulate_both(
     new_out: &mut [u8],
     new_seen: &mut [u8],
 ) -> TabulatedBoth
-    ensures { TabulatesBoth old new (at_entry old_watch) (at_entry new_watch)
-        (table_lengths_at_entry old_next old_out old_seen) (table_lengths_at_entry new_next new_out new_seen) result
-        (table_at_exit old_next old_out old_seen) (table_at_exit new_next new_out new_seen) }
+    ensures { TabulatesBoth old new old_watch.now new_watch.now
+        (lengths_of (table_of old_next.old old_out.old old_seen.old)) (lengths_of (table_of new_next.old new_out.old new_seen.old)) result
+        (table_of old_next.new old_out.new old_seen.new) (table_of new_next.new new_out.new new_seen.new) }
 {
     let old_room = memory::shorter(
         old_next.len(),

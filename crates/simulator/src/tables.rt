@@ -1,8 +1,7 @@
 // The tables of a design.
 ghost use Rattle.std.specs.Prelude.{◌≡◌, List, ℕ, ◌≤◌};
 ghost use Rattle.memory.specs.Meaning.Refusals.{FirstOrNone};
-ghost use Rattle.memory.specs.Meaning.Slices.{at_entry};
-ghost use Rattle.memory.specs.Meaning.Tables.{table_at_exit, table_now, lengths_of, table_lengths_at_entry, shortest_of, ZeroTable};
+ghost use Rattle.memory.specs.Meaning.Tables.{lengths_of, shortest_of, ZeroTable, table_of};
 ghost use Rattle.netlist.specs.Working.Sound.{Sound};
 ghost use Rattle.simulator.specs.Meaning.Tables.{size_of, TableFault};
 ghost use Rattle.simulator.specs.Working.Filling.{DrawnFault, PairNumber, Fillable, FilledTables, Prepares, Writes};
@@ -12,7 +11,7 @@ use order::Plan;
 use watched::Watch;
 
 // What tabulating a design needs: the first number that applies, or 0; an order of its kept cells, and its watched nets.
-#[derive(Drop)]
+#[derive(Clone, Copy)]
 pub struct Prepared {
     pub number: u8,
     pub plan: Plan,
@@ -21,7 +20,7 @@ pub struct Prepared {
 
 // The first number that applies to tabulating a design into slices of which the shortest has some room, or what filling them needs.
 pub(crate) fn prepare(d: Design, watch: &[u16], room: usize) -> Prepared
-    ensures { Prepares d (at_entry watch) room result.number result.plan.kept result.plan.cells result.watch.count result.watch.nets }
+    ensures { Prepares d watch.now room result.number result.plan.kept result.plan.cells result.watch.count result.watch.nets }
 {
     let plan = order::levelize(d);
     let taken = watched::take(d, watch);
@@ -82,8 +81,8 @@ pub(crate) fn write(
     seen: &mut [u8],
 )
     requires { number ≡ 0 → Fillable d prepared.plan.kept prepared.plan.cells prepared.watch.count prepared.watch.nets
-        (shortest_of (lengths_of (table_now next out seen))) }
-    ensures { Writes d prepared.watch.count prepared.watch.nets number (table_lengths_at_entry next out seen) (table_at_exit next out seen) }
+        (shortest_of (lengths_of (table_of next.old out.old seen.old))) }
+    ensures { Writes d prepared.watch.count prepared.watch.nets number (lengths_of (table_of next.old out.old seen.old)) (table_of next.new out.new seen.new) }
 {
     memory::clear_table(next, out, seen);
     if number == 0 {
@@ -95,9 +94,9 @@ pub(crate) fn write(
 
 // Every clock of a design, in cleared slices.
 fn fill(d: Design, plan: Plan, watch: Watch, next: &mut [u8], out: &mut [u8], seen: &mut [u8])
-    requires fillable { Fillable d plan.kept plan.cells watch.count watch.nets (shortest_of (lengths_of (table_now next out seen))) }
-    requires zero_table { ZeroTable (table_now next out seen) }
-    ensures { FilledTables d watch.count watch.nets (table_lengths_at_entry next out seen) (size_of d) (table_at_exit next out seen) }
+    requires fillable { Fillable d plan.kept plan.cells watch.count watch.nets (shortest_of (lengths_of (table_of next.old out.old seen.old))) }
+    requires zero_table { ZeroTable (table_of next.old out.old seen.old) }
+    ensures { FilledTables d watch.count watch.nets (lengths_of (table_of next.old out.old seen.old)) (size_of d) (table_of next.new out.new seen.new) }
 {
     let vectors = evaluator::power(d.inputs);
     let end = size(d);

@@ -1,20 +1,19 @@
 // Standard input, as a whole or a room at a time, and which stream an answer goes to. A read or a write that fails is told, so that nothing is answered of half
 // an input, and no answer is lost in silence.
 ghost use Rattle.std.specs.Prelude.{◌≤◌, ◌≡◌, length};
-ghost use Rattle.memory.specs.Meaning.Slices.{at_entry, at_exit};
 ghost use Rattle.io.specs.Counts.{IsPrefixLen};
 ghost use Rattle.pieces.specs.Meaning.Pieces.{Printed};
 ghost use Rattle.streams.specs.Meaning.Input.{Within};
 
 // What was read: so many bytes at the front of a room, which is full or the input ends there; or a read failed.
-#[derive(Drop)]
+#[derive(Clone, Copy)]
 pub enum Input {
     Read(usize),
     Failed,
 }
 
 // How many bytes are to go out, and where: to standard output, 1, or standard error, 2.
-#[derive(Drop)]
+#[derive(Clone, Copy)]
 pub struct Output {
     pub stream: u8,
     pub length: usize,
@@ -22,7 +21,7 @@ pub struct Output {
 
 // Reads standard input into a room, until the room is full or the input ends.
 pub fn read_input(room: &mut [u8]) -> Input
-    ensures { Within result (at_exit room) }
+    ensures { Within result room.new }
 {
     let mut done = 0;
     while done < room.len() {
@@ -42,7 +41,7 @@ pub fn read_input(room: &mut [u8]) -> Input
 // Puts the words that nothing could be read into a text; they go to standard error.
 pub fn put_unread(words: &[u8], text: &mut [u8]) -> Output
     requires { length words.now ≤ length text.old }
-    ensures { (result.stream ≡ 2) × (Printed (at_entry words) (at_exit text) result.length) }
+    ensures { (result.stream ≡ 2) × (Printed words.now text.new result.length) }
 {
     let length = pieces::put_word(words, text, 0);
     Output { stream: 2, length }

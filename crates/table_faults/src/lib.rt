@@ -3,7 +3,6 @@
 // only the length of the shorter table is taken (`old_shown`, `new_shown`).
 ghost use Rattle.std.specs.Prelude.{◌*◌, ◌≤◌, length};
 ghost use Rattle.memory.specs.Meaning.Refusals.{FirstOrNone};
-ghost use Rattle.memory.specs.Meaning.Slices.{at_entry};
 ghost use Rattle.memory.specs.Working.Tests.{Splits, Tells};
 ghost use Rattle.machine.specs.Meaning.Allowed.{WrongAllowed};
 ghost use Rattle.machine.specs.Meaning.Faults.{OutOfRange, TooShort, LeadsOut, TablesFault, VectorsFault};
@@ -20,7 +19,7 @@ pub fn vectors_fault(
     new_shown: usize,
     room: usize,
 ) -> u8
-    ensures { ForTables sizes (at_entry old_next) (at_entry new_next) old_shown new_shown (λ t. FirstOrNone (VectorsFault t room) result) }
+    ensures { ForTables sizes old_next.now new_next.now old_shown new_shown (λ t. FirstOrNone (VectorsFault t room) result) }
 {
     let n = call_fault(old_next, new_next, sizes, old_shown, new_shown, room);
     if n != 0 {
@@ -57,7 +56,7 @@ pub fn call_fault(
     new_shown: usize,
     room: usize,
 ) -> u8
-    ensures { ForTables sizes (at_entry old_next) (at_entry new_next) old_shown new_shown (λ t. FirstOrNone (TablesFault t room) result) }
+    ensures { ForTables sizes old_next.now new_next.now old_shown new_shown (λ t. FirstOrNone (TablesFault t room) result) }
 {
     if out_of_range(sizes) {
         return 11;
@@ -109,8 +108,8 @@ fn too_short(
     room: usize,
 ) -> bool
     requires { InRange sizes }
-    ensures { Splits result (ForTables sizes (at_entry old_next) (at_entry new_next) old_shown new_shown (λ t. TooShort t room))
-        (LongEnough sizes (at_entry old_next) (at_entry new_next) old_shown new_shown room) }
+    ensures { Splits result (ForTables sizes old_next.now new_next.now old_shown new_shown (λ t. TooShort t room))
+        (LongEnough sizes old_next.now new_next.now old_shown new_shown room) }
 {
     if memory::shorter(old_next.len(), old_shown) < sizes.old * sizes.vectors {
         return true;
@@ -129,7 +128,7 @@ fn leads_out(next: &[u8], states: usize, vectors: usize) -> bool
     requires states_bound { states ≤ 128 }
     requires vectors_bound { vectors ≤ 64 }
     requires vectors_in_bounds { states * vectors ≤ length next.now }
-    ensures { Splits result (LeadsOut states vectors (at_entry next)) (Stays states vectors (at_entry next)) }
+    ensures { Splits result (LeadsOut states vectors next.now) (Stays states vectors next.now) }
 {
     let end = states * vectors;
     let mut i = 0;

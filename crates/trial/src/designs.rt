@@ -18,7 +18,7 @@ const CELLS_AT: usize = SHOWN_AT + Image::MOST_OUTPUTS;
 const NUMBERS: usize = CELLS_AT + 3 * Image::MOST_CELLS;
 
 // A design, and where it ends; 0 where it is spelled wrong.
-#[derive(Drop)]
+#[derive(Clone, Copy)]
 pub(crate) struct Drawn {
     pub design: Design,
     pub next: usize,

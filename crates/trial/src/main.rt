@@ -40,7 +40,6 @@ mod slices;
 mod words;
 
 ghost use Rattle.std.specs.Prelude.{◌≤◌, length};
-ghost use Rattle.memory.specs.Meaning.Slices.{length_at_entry};
 
 use machine::{Pair, Sizes};
 use netlist::Design;
@@ -79,7 +78,7 @@ fn ask_all(all: &[u8]) {
 // Where the first such byte stands at or behind a place, or else the end.
 fn find(line: &[u8], from: usize, byte: u8) -> usize
     requires { from ≤ length line.now }
-    ensures { (from ≤ result) × (result ≤ length_at_entry line) }
+    ensures { (from ≤ result) × (result ≤ length line.now) }
 {
     let mut i = from;
     while i < line.len() {
@@ -158,7 +157,7 @@ fn answer(call: usize, old: Design, new: Design, n: [u16; NUMBERS], given: usize
 }
 
 // The lengths of the slices of a question, in the order of the call's parameters.
-#[derive(Drop)]
+#[derive(Clone, Copy)]
 struct Lengths {
     a: usize,
     b: usize,

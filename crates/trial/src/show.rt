@@ -132,7 +132,7 @@ pub(crate) fn replayed(r: Replayed) {
 }
 
 // A run of one value, how many runs there were with it, and the sum of all entries.
-#[derive(Drop)]
+#[derive(Clone, Copy)]
 struct Run {
     value: u64,
     count: u64,

@@ -1,23 +1,22 @@
 // The words of a question: lists of numbers, with a comma or a slash between two entries, and `*n` behind one that stands n times.
 ghost use Rattle.std.specs.Prelude.{◌≤◌, length};
-ghost use Rattle.memory.specs.Meaning.Slices.{length_at_entry};
 
 // How many entries a list has, and where it ends; 0 where it is spelled wrong or has no room.
-#[derive(Drop)]
+#[derive(Clone, Copy)]
 pub(crate) struct Word {
     pub len: usize,
     pub next: usize,
 }
 
 // A number, and where it ends.
-#[derive(Drop)]
+#[derive(Clone, Copy)]
 struct Number {
     value: usize,
     next: usize,
 }
 
 // An entry of a list, how often it stands there, and where it ends: where it was sought if the list has ended, 0 if it is spelled wrong.
-#[derive(Drop)]
+#[derive(Clone, Copy)]
 struct Entry {
     value: usize,
     count: usize,
@@ -110,7 +109,7 @@ fn is_hex(line: &[u8], at: usize) -> bool {
 
 // The place behind the space, or the space and the x, at a place; 0 where none is there.
 fn opened(line: &[u8], at: usize, hex: bool) -> usize
-    ensures { result ≤ length_at_entry line }
+    ensures { result ≤ length line.now }
 {
     if line.len() <= at {
         return 0;
@@ -130,7 +129,7 @@ fn opened(line: &[u8], at: usize, hex: bool) -> usize
 // The place at which a list begins, or 0: nothing stands before its first entry.
 fn begun(line: &[u8], at: usize) -> usize
     requires { at ≤ length line.now }
-    ensures { result ≤ length_at_entry line }
+    ensures { result ≤ length line.now }
 {
     match byte_at(line, at) {
         b',' | b'/' => 0,
@@ -141,7 +140,7 @@ fn begun(line: &[u8], at: usize) -> usize
 // The entry at a place of a list, which is at most so much.
 fn entry_at(line: &[u8], at: usize, hex: bool, most: usize) -> Entry
     requires { at ≤ length line.now }
-    ensures { (result.value ≤ most) × (result.next ≤ length_at_entry line) }
+    ensures { (result.value ≤ most) × (result.next ≤ length line.now) }
 {
     if at == line.len() {
         return Entry {
@@ -164,7 +163,7 @@ fn entry_at(line: &[u8], at: usize, hex: bool, most: usize) -> Entry
 // The entry at a place, with the count behind a star.
 fn counted(line: &[u8], at: usize, hex: bool, most: usize) -> Entry
     requires { at ≤ length line.now }
-    ensures { (result.value ≤ most) × (result.next ≤ length_at_entry line) }
+    ensures { (result.value ≤ most) × (result.next ≤ length line.now) }
 {
     let n = spelled(line, at, hex);
     let value = n.value;
@@ -208,7 +207,7 @@ fn counted(line: &[u8], at: usize, hex: bool, most: usize) -> Entry
 // A byte of two hexadecimal digits, or a decimal number.
 fn spelled(line: &[u8], at: usize, hex: bool) -> Number
     requires { at ≤ length line.now }
-    ensures { result.next ≤ length_at_entry line }
+    ensures { result.next ≤ length line.now }
 {
     if !hex {
         return number_at(line, at, line.len(), 10);

@@ -1,5 +1,4 @@
 // The watched nets beside a design: what is wrong with their numbers, and the numbers by value.
-ghost use Rattle.memory.specs.Meaning.Slices.{at_entry};
 ghost use Rattle.watched.specs.Working.Watching.{Takes};
 
 use netlist::Design;
@@ -8,7 +7,7 @@ use netlist::Design;
 pub const MOST_WATCHED: usize = 8;
 
 // The first of 5 and 21 that applies to a slice of watched net numbers, or 0; where it is 0, how many numbers there are, and the numbers.
-#[derive(Drop)]
+#[derive(Clone, Copy)]
 pub struct Watch {
     pub number: u8,
     pub count: usize,
@@ -17,7 +16,7 @@ pub struct Watch {
 
 // The watched nets of a design, taken from a slice of their numbers.
 pub fn take(d: Design, watch: &[u16]) -> Watch
-    ensures { Takes d (at_entry watch) result.number result.count result.nets }
+    ensures { Takes d watch.now result.number result.count result.nets }
 {
     let total = 2 + d.inputs as usize + d.latches as usize + d.count as usize;
     let count = watch.len();

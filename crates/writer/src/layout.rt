@@ -1,7 +1,7 @@
 // The image of a design, byte by byte.
 ghost use Rattle.std.specs.Prelude.{◌≡◌, ◌+◌, ◌<◌, ◌≤◌, length, get_or};
 ghost use Rattle.numbers.specs.Meaning.Bits.{bit_of};
-ghost use Rattle.memory.specs.Meaning.Slices.{at_entry, length_at_entry, at_exit, Zero};
+ghost use Rattle.memory.specs.Meaning.Slices.{Zero};
 ghost use Rattle.netlist.specs.Working.Sound.{Sound};
 ghost use Rattle.limits.specs.Meaning.Limits.{most_cells};
 ghost use Rattle.limits.specs.Meaning.Layout.{most_bytes};
@@ -33,7 +33,7 @@ pub(crate) fn header(d: Design) -> Header
 // Writes the image of a design into a cleared slice.
 pub(crate) fn put(d: Design, h: Header, bytes: usize, image: &mut [u8])
     requires { (Sound d) × (Heads d h) × (bytes ≡ bytes_of d) × (bytes ≤ length image.old) × (Zero image.old) }
-    ensures { (length (at_exit image) ≡ length_at_entry image) × (HoldsImage d (at_exit image) bytes) }
+    ensures { (length image.new ≡ length image.old) × (HoldsImage d image.new bytes) }
 {
     let words = packing::words_of(d, h);
     let cells = words.cells;
@@ -57,7 +57,7 @@ fn byte_at(
     k: usize,
 ) -> u8
     requires { (count ≤ most_cells) × (tails ≤ most_tails) × (k < most_bytes) }
-    ensures { result ≡ word_byte header (λ i. get_or (at_entry cells) i 0) (λ t. get_or (at_entry tail) t 0) count tails k }
+    ensures { result ≡ word_byte header (λ i. get_or cells.now i 0) (λ t. get_or tail.now t 0) count tails k }
 {
     let mut n: u8 = 0;
     let mut j: usize = 0;
@@ -77,7 +77,7 @@ fn bit_at(
     i: usize,
 ) -> u8
     requires { (count ≤ most_cells) × (tails ≤ most_tails) }
-    ensures { result ≡ word_bit header (λ i. get_or (at_entry cells) i 0) (λ t. get_or (at_entry tail) t 0) count tails i }
+    ensures { result ≡ word_bit header (λ i. get_or cells.now i 0) (λ t. get_or tail.now t 0) count tails i }
 {
     let behind = Image::HEADER_BITS + Image::CELL_BITS * count;
     if i < Image::HEADER_BITS {

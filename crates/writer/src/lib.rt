@@ -1,13 +1,13 @@
 // Writing the netlist image of a design.
 mod layout;
 
-ghost use Rattle.memory.specs.Meaning.Slices.{length_at_entry, at_exit};
+ghost use Rattle.std.specs.Prelude.{length};
 ghost use Rattle.writer.specs.Meaning.Writing.{Writes};
 
 use format::fields;
 use netlist::Design;
 
-#[derive(Drop)]
+#[derive(Clone, Copy)]
 pub enum Written {
     Bytes(usize),
     Refused(u8),
@@ -15,7 +15,7 @@ pub enum Written {
 
 // Writes the image of a design, and zero behind it.
 pub fn write(d: Design, image: &mut [u8]) -> Written
-    ensures { Writes d (length_at_entry image) result (at_exit image) }
+    ensures { Writes d (length image.old) result image.new }
 {
     memory::clear_bytes(image);
     let number = order::fault_of(d);

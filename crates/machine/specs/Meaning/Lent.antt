@@ -1,12 +1,12 @@
 -- The slices that a call over two tables is lent besides them: both scratch slices, and the one that it writes its answer to.
 --   Lent              how many entries they have: depth, of bytes, and reach, of 16-bit numbers, are the two scratch slices, and written is the
---                     mark or list slice, of bytes; lent_of makes it, lengths_at_entry of slices
+--                     mark or list slice, of bytes; lent_of makes it
 --   scratch_of s       how many entries the shorter scratch slice has; room_of s the shortest of scratch and marks
---   Left              what they hold at exit; left_of makes it, left_at_exit of slices
+--   Left              what they hold at exit; left_of makes it
 --   Tidy s e          scratch is all zero, and every slice is as long as it was
 --   Listed S list n   the first n bytes of the list slice have S, and all beyond them is 0
 use Rattle.std.specs.Prelude.{◌≡◌, List, ℕ, ◌≤◌, min, length, take}
-use Rattle.memory.specs.Meaning.Slices.{Slice, length_at_entry, at_exit, ZeroFrom, Cleared}
+use Rattle.memory.specs.Meaning.Slices.{ZeroFrom, Cleared}
 
 -- "both scratch slices; a map takes a mark slice besides, the others a list slice"; §8: "one of the two scratch slices becomes one byte a pair;
 -- the other keeps its 16-bit numbers"
@@ -25,12 +25,6 @@ lent_of depth reach written = record { depth = depth; reach = reach; written = w
 
 abbrev pub left_of : List ℕ → List ℕ → List ℕ → Left
 left_of depth reach written = record { depth = depth; reach = reach; written = written }
-
-abbrev pub lengths_at_entry : Slice ℕ → Slice ℕ → Slice ℕ → Lent
-lengths_at_entry depth reach written = lent_of (length_at_entry depth) (length_at_entry reach) (length_at_entry written)
-
-abbrev pub left_at_exit : Slice ℕ → Slice ℕ → Slice ℕ → Left
-left_at_exit depth reach written = left_of (at_exit depth) (at_exit reach) (at_exit written)
 
 -- "12 a .. scratch .. slice too short": one is where the shorter is
 abbrev pub scratch_of : Lent → ℕ

@@ -1,13 +1,12 @@
 -- The three table slices that a design lends, a byte for each state under each vector: next states, outputs and watched values. Every
 -- contract takes them in this order.
---   Table, table_of   what they hold; table_at_entry and table_at_exit at these moments, and table_now in `requires`
---   Lengths          how many bytes they have; table_lengths_at_entry at entry
+--   Table, table_of   what they hold
+--   Lengths          how many bytes they have
 --   lengths_of t      how many bytes those of t have
 --   shortest_of n     how many bytes the shortest has
 --   ZeroTable t      they are zero
 use Rattle.std.specs.Prelude.{ℕ, min, List, length}
-use Rattle.std.specs.Borrow.{Bor}
-use Rattle.memory.specs.Meaning.Slices.{Slice, at_entry, at_exit, Zero}
+use Rattle.memory.specs.Meaning.Slices.{Zero}
 
 -- "two table slices a design"; §9: "each design lends a third table slice of S × V bytes for watched values"
 pub record Table : Type 0 where
@@ -25,18 +24,6 @@ pub record Lengths : Type 0 where
 
 abbrev pub lengths_of : Table → Lengths
 lengths_of t = record { next = length t.next; out = length t.out; seen = length t.seen }
-
-abbrev pub table_at_entry : Slice ℕ → Slice ℕ → Slice ℕ → Table
-table_at_entry next out seen = table_of (at_entry next) (at_entry out) (at_entry seen)
-
-abbrev pub table_at_exit : Slice ℕ → Slice ℕ → Slice ℕ → Table
-table_at_exit next out seen = table_of (at_exit next) (at_exit out) (at_exit seen)
-
-abbrev pub table_now : Bor (List ℕ) → Bor (List ℕ) → Bor (List ℕ) → Table
-table_now next out seen = table_of next.now out.now seen.now
-
-abbrev pub table_lengths_at_entry : Slice ℕ → Slice ℕ → Slice ℕ → Lengths
-table_lengths_at_entry next out seen = lengths_of (table_at_entry next out seen)
 
 -- "12 a table .. slice too short": one is where the shortest is
 abbrev pub shortest_of : Lengths → ℕ
