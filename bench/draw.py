@@ -41,10 +41,10 @@ class Drawing:
         return int(bits, 2).to_bytes(len(bits) // 8, "big")
 
 
-def counting(drawing, latches, count):
-    """The nets of the number of these flip-flops plus the value of the net `count`."""
+def counting(drawing, count):
+    """The nets of the flip-flops' number plus the value of the net `count`."""
     carry, data = count, []
-    for latch in reversed(latches):
+    for latch in reversed(drawing.latches):
         data.append(drawing.cell("xor", latch, carry))
         carry = drawing.cell("and", latch, carry)
     return data[::-1]
@@ -55,14 +55,14 @@ def synchroniser(inputs):
     d = Drawing(inputs, 7)
     full = d.all_of(d.latches)
     count = d.cell("or", d.cell("not", d.inputs[-1]), full)
-    return d.image(counting(d, d.latches, count), d.latches)
+    return d.image(counting(d, count), d.latches)
 
 
 def ring(inputs, first):
     """Counts whatever the inputs are, and shows whether it is at 127; behind 127 comes `first`, which is 0 or 1."""
     d = Drawing(inputs, 7)
     full = d.all_of(d.latches)
-    data = counting(d, d.latches, 1)
+    data = counting(d, 1)
     if first == 1:
         data[-1] = d.cell("or", data[-1], full)
     return d.image(data, [full])

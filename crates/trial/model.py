@@ -5,9 +5,8 @@
 
 It was written from the papers, not from the proved code, and goes another way where there is one: an image is a string of 0 and 1, the
 value of a net is found by recursion, a flip-flop that is held or cleared reads another net, an image that version 1 could have held is
-one that would be written otherwise, a set of pairs is a set, the allowed vectors are a list, a recording is followed from each state at
-power-up by itself, and what refuses a call is a list of numbers of which the first counts. It stops where a trace or a list is longer, or
-a verdict takes more rounds, than request §7 says.
+one that would be written otherwise, a set of pairs is a set, the allowed vectors are a list, and what refuses a call is a list of numbers
+of which the first counts. It stops where a trace or a list is longer, or a verdict takes more rounds, than request §7 says.
 """
 import re
 from pathlib import Path
@@ -393,37 +392,10 @@ def on_one(call, design, numbers):
     return said + short(filled(image, numbers[1]), lambda byte: f"{byte:02x}", "x")
 
 
-def on_recording(design, lengths, data):
-    """Each state at power-up is followed by itself, up to its end or to the record at which it shows other outputs."""
-    if sum(lengths) > len(data):
-        raise NoQuestion("the recording has shorter parts")
-    bits = "".join(f"{byte:08b}" for byte in data)
-    records = [bits[k:k + 16] for k in range(0, len(bits) - 15, 16)]
-    zero = [*range(6 - design.inputs), *range(6, 14 - design.outputs), 14, 15]
-    faults = design.faults()
-    if not faults and len(data) % 2:
-        faults = [22]
-    if not faults and any(record[k] == "1" for record in records for k in zero):
-        faults = [23]
-    if faults:
-        return f"refused {faults[0]}" + short([0] * 128)
-    ends, farthest = set(), 0
-    for state in range(2 ** design.latches):
-        for number, record in enumerate(records, 1):
-            state, shown = design.step(state, int(record[:6], 2))[:2]
-            if shown != int(record[6:14], 2):
-                farthest = max(farthest, number)
-                break
-        else:
-            ends.add(state)
-    return (f"states {len(ends)}" if ends else f"unexplained {farthest}") + short([int(state in ends) for state in range(128)])
-
-
-DESIGNS = {"compare": 2, "tabulate_both": 2, "tabulate": 1, "write": 1, "clock": 1, "fault_of": 1, "levelize": 1, "replay": 1}
+DESIGNS = {"compare": 2, "tabulate_both": 2, "tabulate": 1, "write": 1, "clock": 1, "fault_of": 1, "levelize": 1}
 TAKE_NO_NUMBERS = ["fault_of", "levelize", "length_of", "read"]
-TAKE_NO_BYTES = ["compare", "tabulate_both", "tabulate", "write", "clock", "fault_of", "levelize", "earlier_number"]
 OTHERS = ["length_of", "read", "map_alike", "map_alignable", "trace_of", "list_of", "judge", "earlier_number"]
-ORDER = [*range(1, 10), 19, 10, 21, *range(11, 15), 20, 15, 16, 22, 23]
+ORDER = [*range(1, 10), 19, 10, 21, *range(11, 15), 20, 15, 16]
 
 
 def design_of(words):
@@ -447,7 +419,7 @@ def answer(line):
     given = len(numbers)
     numbers += [0] * (TOO_LONG["numbers"] - len(numbers))
     data = entries(words.pop(0), 255, "bytes") if words else []
-    if words or (call in TAKE_NO_NUMBERS and given) or (call in TAKE_NO_BYTES and data):
+    if words or (call in TAKE_NO_NUMBERS and given) or ((call in DESIGNS or call == "earlier_number") and data):
         raise NoQuestion(SPELLED_WRONG)
     if call not in DESIGNS and call not in OTHERS:
         raise NoQuestion("no such call")
@@ -460,8 +432,6 @@ def answer(line):
     if call == "earlier_number":
         some = [min(number, 255) for number in numbers[:2] if number]
         return f"number {min(some, key=lambda n: (ORDER.index(n) if n in ORDER else len(ORDER), n), default=0)}"
-    if call == "replay":
-        return on_recording(designs[0], numbers[:given], data)
     if call in ("write", "clock", "fault_of", "levelize"):
         return on_one(call, designs[0], numbers)
     if call in DESIGNS:

@@ -26,38 +26,27 @@ pub const FLIPPED: usize = 7;
 
 pub const CUT: usize = 8;
 
-pub const REPLAYED: usize = 9;
-
-pub const UNEXPLAINED: usize = 10;
-
-// How often each number from 0 to 23 was expected for each of these, and how often of a design or an image in version 2; then the
+// How often each number from 0 to 21 was expected for each of these, and how often of a design or an image in version 2; then the
 // disagreements.
-pub const DISAGREEMENTS: usize = 528;
+pub const DISAGREEMENTS: usize = 396;
 
-pub const PLACES: usize = 529;
+pub const PLACES: usize = 397;
 
 pub type Tally = [usize; PLACES];
 
 // A number where n is over the room for images, which is a fault of this program.
-pub const NO_ROOM: usize = 20000;
+const NO_ROOM: usize = 20000;
 
 // The number of a refusal or 0; three numbers more, 0 where there are fewer; and the first place at which the tables, the bytes or the
 // design are not what is expected, or their length. The three are states and vectors; next state, output and entry of a clock; states of
 // both and vectors; bytes of the image and of the slice; bytes that the header gives, or 10000 and a number, and the first place at which
-// the image written again differs; states of a recording, or 1000 and a record, or 2000 and a number, the same of it in two parts, and
-// where these are cut.
+// the image written again differs.
 #[derive(Clone, Copy)]
 pub struct Answer(pub usize, pub usize, pub usize, pub usize, pub usize);
 
 // Counts a comparison. A difference is printed with its design, if it is one of the first few; then the result is true.
-pub fn judge(
-    what: usize,
-    list: &Plain,
-    found: Answer,
-    expected: Answer,
-    tally: &mut Tally,
-) -> bool {
-    let place = 48 * (what % 11) + 2 * (expected.0 % 24);
+fn judge(what: usize, list: &Plain, found: Answer, expected: Answer, tally: &mut Tally) -> bool {
+    let place = 44 * (what % 9) + 2 * (expected.0 % 22);
     tally[place] = std::num::wrapping_add_usize(tally[place], 1);
     if list[plain::VERSION] == 2 {
         tally[place + 1] = std::num::wrapping_add_usize(tally[place + 1], 1);
@@ -127,7 +116,7 @@ fn tabulated(list: &Plain, nets: Nets, n: usize, number: usize) -> Answer {
 }
 
 // How many numbers so many bits have as the size at a place says.
-pub fn power(list: &Plain, place: usize) -> usize {
+fn power(list: &Plain, place: usize) -> usize {
     1 << (plain::at(list, place) % 8)
 }
 
@@ -174,7 +163,7 @@ fn entries(list: &Plain, number: usize) -> usize {
 
 // The next state and the output of an entry, and the entry. The bits of all flip-flops are taken at once: those of the data where enabled,
 // those held elsewhere, and of these none that is cleared.
-pub fn stepped(list: &Plain, entry: usize) -> Answer {
+fn stepped(list: &Plain, entry: usize) -> Answer {
     let latches = plain::at(list, plain::LATCHES);
     let outputs = plain::at(list, plain::OUTPUTS);
     let data = recursion::word(list, entry, plain::DATA, 3, latches);

@@ -52,7 +52,7 @@ pub fn put(list: &Plain) -> Bits {
 }
 
 // Puts a number as n bits from a place on.
-pub fn put_field(bits: &mut Bits, from: usize, n: usize, number: usize) {
+fn put_field(bits: &mut Bits, from: usize, n: usize, number: usize) {
     let mut rest = number;
     for k in 0..n {
         let place = wrapping_add_usize(from, n - 1 - k);

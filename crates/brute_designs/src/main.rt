@@ -1,12 +1,10 @@
 // Compares the calls on designs and on images with a second way that shares no code with them. The product sorts the cells and sweeps over
 // them once; here the value of a net is found by recursion through the cells that drive it. The product takes an image field by field; here
-// a second reader and writer work on single bits, and each number has its own test over the whole image. The product moves a set of states
-// along a recording; here each state is followed by itself.
+// a second reader and writer work on single bits, and each number has its own test over the whole image.
 mod compare;
 mod draw;
 mod images;
 mod plain;
-mod recordings;
 mod recursion;
 mod show;
 mod watch;
@@ -20,7 +18,7 @@ use crate::plain::Plain;
 use std::num::wrapping_sub_usize;
 
 // Compares two pairs of designs, an image and a chain a round, and prints what was compared. The chains have from 1 to 256 cells, and are
-// open and then closed. Recordings are drawn from a copy of the sequence, so that the designs are the same with them and without.
+// open and then closed.
 fn main() {
     let mut tally = [0usize; compare::PLACES];
     let mut random: u32 = 2463534242;
@@ -29,9 +27,7 @@ fn main() {
         pair(&mut random, &mut tally);
         drawn_image(&mut random, round, &mut tally);
         let chain = draw::chain(&mut random, (round % 256) as u16 + 1, 256 <= round);
-        let number = compare::design(&chain, &mut tally);
-        let mut copy = random;
-        recordings::replays(&mut copy, &chain, number, &mut tally);
+        compare::design(&chain, &mut tally);
     }
     show::counts(&tally);
 }
@@ -54,9 +50,6 @@ fn pair(random: &mut u32, tally: &mut Tally) {
     let old_number = compare::design(&old, tally);
     let new_number = compare::design(&new, tally);
     compare::both(&old, old_number, &new, new_number, tally);
-    let mut copy = *random;
-    recordings::replays(&mut copy, &old, old_number, tally);
-    recordings::replays(&mut copy, &new, new_number, tally);
 }
 
 // A design of the sizes of a list: some have loops, some are spoiled, and half hold numbers beyond their sizes.
@@ -103,7 +96,6 @@ fn drawn_image(random: &mut u32, round: usize, tally: &mut Tally) {
     flips(random, &mut bits, n, small, tally);
     lengths(&mut bits, n, tally);
     if small {
-        recordings::replays(&mut same, &littered, 0, tally);
         if round % 2 == 0 {
             let first = plain::first_cell(&list);
             plain::put(&mut list, plain::CELLS + 1, first);

@@ -8,17 +8,17 @@ use crate::{images, plain};
 pub fn counts(tally: &Tally) {
     io::write_all(1, b"NUMBER: HOW OFTEN, AND HOW OFTEN IN VERSION 2\n");
     for row in 0..DISAGREEMENTS / 2 {
-        if row % 24 == 0 {
-            name(row / 24);
+        if row % 22 == 0 {
+            name(row / 22);
         }
         if tally[2 * row] != 0 {
             io::write_all(1, b"\n ");
-            spaced(row % 24);
+            spaced(row % 22);
             io::write_all(1, b":");
             spaced(tally[2 * row]);
             spaced(tally[2 * row + 1]);
         }
-        if row % 24 == 23 {
+        if row % 22 == 21 {
             io::write_all(1, b"\n");
         }
     }
@@ -38,9 +38,7 @@ fn name(what: usize) -> bool {
         5 => io::write_all(1, b"SPOILED DESIGNS WRITTEN"),
         6 => io::write_all(1, b"IMAGES READ"),
         7 => io::write_all(1, b"IMAGES WITH FLIPPED BITS READ"),
-        8 => io::write_all(1, b"IMAGES CUT OR LENGTHENED READ"),
-        9 => io::write_all(1, b"RECORDINGS REPLAYED"),
-        _ => io::write_all(1, b"RECORDINGS THAT NO STATE EXPLAINS REPLAYED"),
+        _ => io::write_all(1, b"IMAGES CUT OR LENGTHENED READ"),
     }
 }
 
@@ -75,9 +73,9 @@ pub fn numbers(list: &Plain) {
     io::write_all(1, b"\n");
 }
 
-// Prints the first n bytes of an image or a recording.
+// Prints the first n bytes of an image.
 pub fn bytes(bits: &Bits, n: usize) {
-    io::write_all(1, b"  BYTES");
+    io::write_all(1, b"  IMAGE");
     for i in 0..n {
         if i < images::BYTES {
             io::write_all(1, b" ");

@@ -35,14 +35,6 @@ filled_more f z n i l v h e w = record {
   rest = λ k le. get_or-set_other l i k v z (λ q. omega arith) ∙ w.rest k (omega arith);
 }
 
--- where f i is z, nothing needs to be stored
-pub filled_same : {A : Type 0} (f : ℕ → A) (z : A) (n i : ℕ) (l : List A) → z ≡ f i → Filled f z n i l → Filled f z n (i + 1) l
-filled_same f z n i l e w = record {
-  size = w.size;
-  front = below_more (λ (k : ℕ). get_or l k z ≡ f k) i w.front (w.rest i (omega arith) ∙ e);
-  rest = λ k le. w.rest k (omega arith);
-}
-
 -- nothing is written, one entry more is, and all are
 pub written_start : {R : ℕ → ℕ → Type 0} (l : List ℕ) → Written R 0 l l
 written_start l = record { each = λ q h. absurd (omega arith); beyond = λ q h. refl; long = refl }

@@ -15,10 +15,10 @@ use Rattle.memory.specs.Working.Lowest.{place_in}
 use Rattle.memory.proofs.Orders.{Stands}
 use Rattle.memory.proofs.Computed.{every_at, and_left, and_right, or_split, or_right}
 
--- a test that computes on the order: no number but 19 to 23 is over 16
+-- a test that computes on the order: no number but 19 to 21 is over 16
 abbrev known : List ℕ → Bool
 known [] = true
-known (k ∷ ks) = (leb k 16 || (ltb 18 k && ltb k 24)) && known ks
+known (k ∷ ks) = (leb k 16 || (ltb 18 k && ltb k 22)) && known ks
 
 -- the earlier of two numbers by their places
 earlier_place : (ks : List ℕ) (a b : ℕ) → earlier ks a b ≡ cond (ltb (place_in ks b) (place_in ks a)) b a
@@ -77,23 +77,15 @@ pub place_last : (n : ℕ) → 14 < n → n ≤ 16 → n + 2 ≡ place_in table_
 unfolding place_in
 place_last n h l = sym (eqb→eq (place_in table_order n) (n + 2) (or_right (leb n 14) (eqb (place_in table_order n) (n + 2)) (every_at (λ i. leb i 14 || eqb (place_in table_order i) (i + 2)) 17 n tt (omega arith)) (λ t. omega (arith, leb→le n 14 t))))
 
-pub place_22 : (n : ℕ) → n ≡ 22 → 19 ≡ place_in table_order n
-unfolding place_in
-place_22 n e = rw e
-
-pub place_23 : (n : ℕ) → n ≡ 23 → 20 ≡ place_in table_order n
-unfolding place_in
-place_23 n e = rw e
-
-outside : (n : ℕ) (ks : List ℕ) → T (known ks) → 16 < n → (18 < n → n < 24 → ⊥) → length ks + n ≡ place_in ks n
+outside : (n : ℕ) (ks : List ℕ) → T (known ks) → 16 < n → (18 < n → n < 22 → ⊥) → length ks + n ≡ place_in ks n
 unfolding place_in
 outside n [] t h l = omega arith
-outside n (k ∷ ks) t h l = rw (ne_eqb k n (λ e. other e (or_split (leb k 16) (ltb 18 k && ltb k 24) (and_left (leb k 16 || (ltb 18 k && ltb k 24)) (known ks) t)))) (omega (arith, outside n ks (and_right (leb k 16 || (ltb 18 k && ltb k 24)) (known ks) t) h l))
+outside n (k ∷ ks) t h l = rw (ne_eqb k n (λ e. other e (or_split (leb k 16) (ltb 18 k && ltb k 22) (and_left (leb k 16 || (ltb 18 k && ltb k 22)) (known ks) t)))) (omega (arith, outside n ks (and_right (leb k 16 || (ltb 18 k && ltb k 22)) (known ks) t) h l))
   where
-    other : k ≡ n → T (leb k 16) ⊎ T (ltb 18 k && ltb k 24) → ⊥
-    other e s = ⊎_elim (λ a. omega (arith, leb→le k 16 a)) (λ a. l (omega (arith, ltb→lt 18 k (and_left (ltb 18 k) (ltb k 24) a))) (omega (arith, ltb→lt k 24 (and_right (ltb 18 k) (ltb k 24) a)))) s
+    other : k ≡ n → T (leb k 16) ⊎ T (ltb 18 k && ltb k 22) → ⊥
+    other e s = ⊎_elim (λ a. omega (arith, leb→le k 16 a)) (λ a. l (omega (arith, ltb→lt 18 k (and_left (ltb 18 k) (ltb k 22) a))) (omega (arith, ltb→lt k 22 (and_right (ltb 18 k) (ltb k 22) a)))) s
 
-pub place_none : (n : ℕ) → 16 < n → (18 < n → n < 24 → ⊥) → 21 + n ≡ place_in table_order n
+pub place_none : (n : ℕ) → 16 < n → (18 < n → n < 22 → ⊥) → 19 + n ≡ place_in table_order n
 place_none n h l = outside n table_order tt h l
 
 -- the first number that applies is the one whose place no other comes before: numbers need not rise

@@ -73,8 +73,8 @@ pub fn earlier_number(a: u8, b: u8) -> u8
     a
 }
 
-// Where a number stands in the order of refusals: 19 comes between 9 and 10, 21 between 10 and 11, 20 between 14 and 15, 22 and 23 last, and
-// a number without a place behind all that have one.
+// Where a number stands in the order of refusals: 19 comes between 9 and 10, 21 between 10 and 11, 20 between 14 and 15, and a number
+// without a place behind all that have one.
 fn place(number: u8) -> usize
     requires { 0 < number }
     ensures { result ≡ place_in table_order number }
@@ -88,14 +88,8 @@ fn place(number: u8) -> usize
     if number == 20 {
         return 16;
     }
-    if number == 22 {
-        return 19;
-    }
-    if number == 23 {
-        return 20;
-    }
     if number > 16 {
-        return 21 + number as usize;
+        return 19 + number as usize;
     }
     if number > 14 {
         return number as usize + 2;

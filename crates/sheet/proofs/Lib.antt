@@ -11,5 +11,3 @@ pub mod Lengths
 pub mod Panels
 pub mod WatchedNumbers
 pub mod Watching
-pub mod Replaying
-pub mod Recorded

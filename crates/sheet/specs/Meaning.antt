@@ -6,4 +6,3 @@ pub mod Toggles
 pub mod Lengths
 pub mod Panels
 pub mod Watching
-pub mod Recorded

@@ -1,4 +1,4 @@
-// Standard input, as a whole or a room at a time, and which stream an answer goes to. A read or a write that fails is told, so that nothing is answered of half
+// Standard input as a whole, and which stream an answer goes to. A read or a write that fails is told, so that nothing is answered of half
 // an input, and no answer is lost in silence.
 ghost use Rattle.std.specs.Prelude.{◌≤◌, ◌≡◌, length};
 ghost use Rattle.io.specs.Counts.{IsPrefixLen};

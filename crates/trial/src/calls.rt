@@ -15,23 +15,21 @@ pub(crate) const FAULT_OF: usize = 6;
 
 pub(crate) const LEVELIZE: usize = 7;
 
-pub(crate) const REPLAY: usize = 8;
+pub(crate) const LENGTH_OF: usize = 8;
 
-pub(crate) const LENGTH_OF: usize = 9;
+pub(crate) const READ: usize = 9;
 
-pub(crate) const READ: usize = 10;
+pub(crate) const MAP_ALIKE: usize = 10;
 
-pub(crate) const MAP_ALIKE: usize = 11;
+pub(crate) const MAP_ALIGNABLE: usize = 11;
 
-pub(crate) const MAP_ALIGNABLE: usize = 12;
+pub(crate) const TRACE_OF: usize = 12;
 
-pub(crate) const TRACE_OF: usize = 13;
+pub(crate) const LIST_OF: usize = 13;
 
-pub(crate) const LIST_OF: usize = 14;
+pub(crate) const JUDGE: usize = 14;
 
-pub(crate) const JUDGE: usize = 15;
-
-pub(crate) const EARLIER_NUMBER: usize = 16;
+pub(crate) const EARLIER_NUMBER: usize = 15;
 
 // The number of the call of a name: how many names stand up to it, each between spaces; one that is not there has a higher number.
 pub(crate) fn call_of(names: &[u8], name: &[u8]) -> usize {

@@ -22,8 +22,6 @@
 //   map_alike 7/4*6/4,4,4/2,2,2 0,1,0,1/0,0,1,1/0*4/0,1,0,1/0,1,0,1/0*4
 //   map_alignable 7/4*6/4,4,4/2,2,2/0,0/0,0,0,1 0,1,0,1/0,0,1,1/0*4/0,1,0,1/0,1,0,1/0*4   only vector 0 is allowed
 //   trace_of 7/4*6/4,4,1/2,2,2/0,1/0,0,0,3 0,1,0,1/0,0,1,1/0*4/0,1,0,1/0,1,0,1/0*4
-//   replay x111100008060 x04000004          the recording
-//   replay x111100008060 1,0 x04000004      the same by parts: the lengths of all but the last
 //   earlier_number 19,10                    two numbers of refusals
 //
 // Of two designs the watched nets stand last: how many of the old one are watched, these, and those of the new one; without them none is.
@@ -31,8 +29,8 @@
 // and the pair, of which maps and the verdict take no notice; the bytes are the six tables, of next states, outputs and watched values. Last
 // comes the number that names the allowed vectors, in four parts of 16 bits, the most significant first; where they are left out, all V
 // vectors are allowed. length_of and read take no list of numbers: their image stands behind an x. An answer shows each written slice behind
-// a bar, as a list, 00*0 for an empty one, and the marks of a replay likewise; of one with more than 64 runs of one value the first 64 runs,
-// and a sum in which an entry counts by where it stands.
+// a bar, as a list, 00*0 for an empty one; of one with more than 64 runs of one value the first 64 runs, and a sum in which an entry counts
+// by where it stands.
 mod calls;
 mod designs;
 mod show;
@@ -43,10 +41,10 @@ ghost use Rattle.std.specs.Prelude.{◌≤◌, length};
 
 use machine::{Pair, Sizes};
 use netlist::Design;
-use std::num::{wrapping_add_usize, wrapping_sub_usize};
+use std::num::wrapping_sub_usize;
 
 // The most bytes of all lines, entries of a slice that is written, bytes of a list that is read, and numbers of a question.
-const LINES: usize = 524288;
+const LINES: usize = 262144;
 
 const SLICE: usize = 65536;
 
@@ -58,7 +56,7 @@ fn main() {
     let mut all = [0u8; LINES];
     let n = io::read_full(0, &mut all);
     if n == LINES {
-        show::word(b"NO QUESTIONS: the lines have more than 524,287 bytes\n");
+        show::word(b"NO QUESTIONS: the lines have more than 262,143 bytes\n");
         return;
     }
     ask_all(slices::cut(&all, 0, n));
@@ -102,10 +100,10 @@ fn ask(line: &[u8]) {
 fn ask_call(line: &[u8]) {
     let end = find(line, 0, b' ');
     let call = calls::call_of(
-        b" compare tabulate_both tabulate write clock fault_of levelize replay length_of read map_alike map_alignable trace_of list_of judge earlier_number ",
+        b" compare tabulate_both tabulate write clock fault_of levelize length_of read map_alike map_alignable trace_of list_of judge earlier_number ",
         slices::cut(line, 0, end),
     );
-    let old = designs::drawn_at(line, end, call <= calls::REPLAY);
+    let old = designs::drawn_at(line, end, call <= calls::LEVELIZE);
     let new = designs::drawn_at(line, old.next, call <= calls::TABULATE_BOTH);
     let mut numbers = [0u16; NUMBERS];
     let f = words::numbers(line, new.next, &mut numbers);
@@ -147,7 +145,6 @@ fn answer(call: usize, old: Design, new: Design, n: [u16; NUMBERS], given: usize
         calls::CLOCK => ask_clock(old, n),
         calls::FAULT_OF => show::item(b"fault ", order::fault_of(old) as usize),
         calls::LEVELIZE => ask_levelize(old),
-        calls::REPLAY => ask_replay(old, n, given, bytes),
         calls::LENGTH_OF => show::measured(image::length_of(bytes)),
         calls::READ => show::reading(image::read(bytes)),
         calls::MAP_ALIKE..=calls::JUDGE => ask_tables(call, n, given, bytes),
@@ -315,32 +312,6 @@ fn ask_levelize(design: Design) {
     show::item(b" kept ", plan.kept);
     let cells = plan.cells;
     show::numbers(&cells);
-}
-
-// Replays a recording whole, or by parts.
-fn ask_replay(design: Design, n: [u16; NUMBERS], given: usize, bytes: &[u8]) {
-    if given == 0 {
-        show::replayed(recording::replay(design, bytes));
-        return;
-    }
-    let begun = recording::begin(design);
-    let table = begun.table;
-    let mut session = begun.session;
-    let mut at = 0;
-    for k in 0..NUMBERS {
-        if k < given {
-            let end = wrapping_add_usize(at, wide(n[k]));
-            if end > bytes.len() {
-                show::word(b"NO QUESTION: the recording has shorter parts");
-                return;
-            }
-            let fed = recording::feed(&table, session, slices::cut(bytes, at, end));
-            session = fed;
-            at = end;
-        }
-    }
-    let fed = recording::feed(&table, session, slices::cut(bytes, at, bytes.len()));
-    show::replayed(recording::finish(fed));
 }
 
 fn ask_earlier_number(n: [u16; NUMBERS]) {

@@ -2,7 +2,6 @@
 use engine::{MappedAlignable, MappedAlike};
 use image::{Answer, Length, Reading};
 use machine::Found;
-use recording::{Outcome, Replayed};
 use simulator::{Clocked, Tabulated, TabulatedBoth};
 use verdict::{Judged, Verdict};
 use writer::Written;
@@ -113,22 +112,6 @@ pub(crate) fn judged(r: Judged) {
     }
     item(b" alike ", r.alike);
     item(b" alignable ", r.alignable);
-}
-
-// What a replay answers, and the marks beside it as 1 and 0.
-pub(crate) fn replayed(r: Replayed) {
-    let outcome = r.outcome;
-    match outcome {
-        Outcome::States(n) => item(b"states ", n),
-        Outcome::Unexplained(n) => item(b"unexplained ", n),
-        Outcome::Refused(n) => item(b"refused ", n as usize),
-    }
-    io::write_all(1, b" | ");
-    let mut run = no_run();
-    for q in 0..128 {
-        run = go_on(run, r.marks[q] as u64, false);
-    }
-    go_on(run, END, false);
 }
 
 // A run of one value, how many runs there were with it, and the sum of all entries.

@@ -1,6 +1,6 @@
 -- `place`: the places computed.
 use native.Mathlib.Omega.{arith}
-use Rattle.memory.proofs.Places.{place_19, place_10, place_21, place_20, place_22, place_23, place_low, place_high, place_last, place_none}
+use Rattle.memory.proofs.Places.{place_19, place_10, place_21, place_20, place_low, place_high, place_last, place_none}
 use borrow.Author.Rules.{rules}
 use Rattle.memory.proofs.place.Statement.{statement}
 use Rattle.memory.proofs.place.Tie as tie
@@ -15,25 +15,19 @@ returns-3 : tie.Need-returns-3
 returns-3 c = place_20 _ c.if3.true
 
 returns-4 : tie.Need-returns-4
-returns-4 c = place_22 _ c.if4.true
+returns-4 c = place_none _ (omega arith) (λ h l. omega arith)
 
 returns-5 : tie.Need-returns-5
-returns-5 c = place_23 _ c.if5.true
+returns-5 c = place_last _ (omega arith) (omega arith)
 
 returns-6 : tie.Need-returns-6
-returns-6 c = place_none _ (omega arith) (λ h l. omega arith)
+returns-6 c = place_high _ (omega arith) (omega arith)
 
 returns-7 : tie.Need-returns-7
-returns-7 c = place_last _ (omega arith) (omega arith)
+returns-7 c = place_10 _ c.if7.true
 
 returns-8 : tie.Need-returns-8
-returns-8 c = place_high _ (omega arith) (omega arith)
-
-returns-9 : tie.Need-returns-9
-returns-9 c = place_10 _ c.if9.true
-
-returns-10 : tie.Need-returns-10
-returns-10 c = place_low _ (omega arith) (omega arith)
+returns-8 c = place_low _ (omega arith) (omega arith)
 
 pub place-spec : {M : Type 1} → statement M
-place-spec = tie.close (tie.spec returns returns-2 returns-3 returns-4 returns-5 (λ c. search rules) returns-6 (λ c. search rules) returns-7 (λ c. search rules) returns-8 returns-9 (λ c. search rules) returns-10)
+place-spec = tie.close (tie.spec returns returns-2 returns-3 (λ c. search rules) returns-4 (λ c. search rules) returns-5 (λ c. search rules) returns-6 returns-7 (λ c. search rules) returns-8)

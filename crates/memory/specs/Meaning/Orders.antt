@@ -2,7 +2,7 @@
 --   NoneBefore P order k         k stands in the list `order`, and nothing that stands before it there applies
 --   FirstIn P order k            k applies besides: it is the first entry that does
 --   FirstNumber P order num n    n is the number of the first entry that applies
---   table_order                   the order of 1 to 16 and 19 to 23 (drawings have orders of their own: aiger, Meaning/Faults)
+--   table_order                   the order of 1 to 16 and 19 to 21 (drawings have orders of their own: aiger, Meaning/Faults)
 --   earlier order a b            of two numbers the one that stands first in the order
 -- P k says that the entry k applies to a call. Mostly the entries are the numbers themselves; where a number stands twice in an
 -- order, entries tell its places apart, and num k is the number of the entry k.
@@ -22,9 +22,9 @@ pub record FirstNumber {K : Type 0} (P : K → Type 0) (order : List K) (number 
   pub numbered : n ≡ number entry
 
 -- "The lowest applicable number is returned": in document 01's table what is lower comes first; 19 comes "after all other image faults",
--- 20 "after 14 and before 15", and 21 "directly after 10"; "with 22 .., then with 23", which are above all others here
+-- 20 "after 14 and before 15", and 21 "directly after 10"
 abbrev pub table_order : List ℕ
-table_order = 1 ∷ 2 ∷ 3 ∷ 4 ∷ 5 ∷ 6 ∷ 7 ∷ 8 ∷ 9 ∷ 19 ∷ 10 ∷ 21 ∷ 11 ∷ 12 ∷ 13 ∷ 14 ∷ 20 ∷ 15 ∷ 16 ∷ 22 ∷ 23 ∷ []
+table_order = 1 ∷ 2 ∷ 3 ∷ 4 ∷ 5 ∷ 6 ∷ 7 ∷ 8 ∷ 9 ∷ 19 ∷ 10 ∷ 21 ∷ 11 ∷ 12 ∷ 13 ∷ 14 ∷ 20 ∷ 15 ∷ 16 ∷ []
 
 -- where neither stands in it, the lower
 unfoldable pub earlier : List ℕ → ℕ → ℕ → ℕ

@@ -7,7 +7,7 @@ abbrev invariant-loop : tie.invariant-loop
 invariant-loop tally row₀ t4 t5 t6 t7 t8 row = Unit {0}
 
 abbrev decreases-loop : tie.decreases-loop
-decreases-loop tally row₀ t4 t5 t6 t7 t8 row = 264 - row
+decreases-loop tally row₀ t4 t5 t6 t7 t8 row = 198 - row
 
 pub counts-spec : {M : Type 1} → statement M
 counts-spec =
