@@ -1,5 +1,5 @@
 // The second reader and the second writer: they take the fields of an image from an array of single bits, and put them there.
-ghost use Rattle.std.specs.Prelude.{◌≤◌};
+ghost use Rattle.std.specs.Prelude.{◌≤◌, length};
 
 use crate::plain::Plain;
 use crate::{plain, recursion};
@@ -124,7 +124,7 @@ fn unread_set(list: &Plain) -> bool {
 
 // Puts the first bits into n bytes.
 pub(crate) fn pack(bits: &Bits, n: usize, bytes: &mut [u8])
-    requires* { do ⌜ n ≤ (← ⟦bytes.len()⟧) ⌝ }
+    requires { n ≤ length bytes.old }
 {
     for i in 0..n {
         bytes[i] = (field(bits, i << 3, 8) % 256) as u8;

@@ -19,7 +19,7 @@ use Rattle.format.specs.Meaning.Version.{version_of}
 use Rattle.format.specs.Meaning.Faults.{ImageFault, HeaderFault}
 use Rattle.format.specs.Working.Scanning.{UnreadAbove, UnreadBelow}
 use Rattle.format.proofs.Refusals.{small, refused, no_6, no_7, no_8, version_cases, within_limits, clean_5}
-use Rattle.reader.proofs.Spelling.{zero_bits_lem, field_some}
+use Rattle.reader.proofs.Spelling.{zero_bits, field_some}
 use Rattle.format.proofs.Versions.{one_version, version_1, version_cases_of}
 use Rattle.format.proofs.Decoding.{Decodes, decodes, plain_nets}
 use Rattle.format.proofs.Carried.{image_3, image_5, no_5}
@@ -98,7 +98,7 @@ module _ (b : List ℕ) (head : Free (HeaderFault b)) (n : ℕ) (found : FirstOr
         no_pad : (i : ℕ) → bits_in b ≤ i → i < 8 * bytes_in b → bit_at b i ≡ 0
         no_pad i h l =
             let e : bits_in b + (i - bits_in b) ≡ i = omega arith in
-            subst (λ (k : ℕ). bit_at b k ≡ 0) e (zero_bits_lem b (bits_in b) (8 * bytes_in b - bits_in b) pad (i - bits_in b) (omega arith))
+            subst (λ (k : ℕ). bit_at b k ≡ 0) e (zero_bits b (bits_in b) (8 * bytes_in b - bits_in b) pad (i - bits_in b) (omega arith))
 
         clean_8 : Clean (ImageFault b) 8
         clean_8 = clean_more (ImageFault b) 7 clean_7 (no_7 no_pad)

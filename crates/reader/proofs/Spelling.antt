@@ -51,9 +51,9 @@ module _ (b : List ℕ) (at : ℕ) where
       horner_append (λ j. bit_at b (at + j)) v w
       ∙ ap (λ (y : ℕ). horner (λ j. bit_at b (at + j)) v * 2 ^ w + y) (horner_cong (λ j. bit_at b (at + (v + j))) (λ j. bit_at b (at + v + j)) w (λ j l. ap (bit_at b) (sym (add_assoc at v j))))
 
-  pub zero_bits_lem : (w : ℕ) → field_at b at w ≡ 0 → (j : ℕ) → j < w → bit_at b (at + j) ≡ 0
+  pub zero_bits : (w : ℕ) → field_at b at w ≡ 0 → (j : ℕ) → j < w → bit_at b (at + j) ≡ 0
   unfolding field_at
-  zero_bits_lem w e j h = zero_digits (λ k. bit_at b (at + k)) w e j h
+  zero_bits w e j h = zero_digits (λ k. bit_at b (at + k)) w e j h
 
   pub field_some : (w : ℕ) → (field_at b at w ≡ 0 → ⊥) → (j : ℕ) × (j < w) × (bit_at b (at + j) ≡ 0 → ⊥)
   unfolding field_at

@@ -24,7 +24,7 @@ use Rattle.format.specs.Meaning.Format.{version_in, inputs_in, latches_in, outpu
 use Rattle.format.specs.Meaning.Faults.{ImageFault}
 use Rattle.format.specs.Working.Scanning.{WithinLimits}
 use Rattle.format.proofs.Refusals.{small, no_3, no_4, no_6, no_7, no_8, clean_4, image_numbered}
-use Rattle.reader.proofs.Spelling.{zero_bits_lem}
+use Rattle.reader.proofs.Spelling.{zero_bits}
 
 -- 1 to 6 find nothing: length and version; sizes and bytes; nets; unread nets
 abbrev pub field_tests : List ℕ → List Bool
@@ -110,7 +110,7 @@ module _ (b : List ℕ) (r : T (passes (field_tests b))) where
     no_pad i h l =
         let j : bits_in b + (i - bits_in b) ≡ i = omega arith in
         let z = eqb→eq (field_at b (bits_in b) (8 * bytes_in b - bits_in b)) 0 e in
-        subst (λ (k : ℕ). bit_at b k ≡ 0) j (zero_bits_lem b (bits_in b) (8 * bytes_in b - bits_in b) z (i - bits_in b) (omega arith))
+        subst (λ (k : ℕ). bit_at b k ≡ 0) j (zero_bits b (bits_in b) (8 * bytes_in b - bits_in b) z (i - bits_in b) (omega arith))
 
     pub clean_8 : Clean (ImageFault b) 8
     clean_8 = clean_more (ImageFault b) 7 clean_7 (no_7 no_pad)
