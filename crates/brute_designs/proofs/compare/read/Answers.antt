@@ -1,0 +1,12 @@
+-- `read`: the first n bytes of an array are n.
+use Rattle.std.proofs.Common.{sym, length-take-le, rules}
+use Rattle.brute_designs.proofs.compare.read.Goals as goal
+
+pub slice_bounds-length_of-end : goal.slice_bounds-length_of-end
+slice_bounds-length_of-end c = sym (length-take-le _ _ (search rules))
+
+pub slice_bounds-read-end : goal.slice_bounds-read-end
+slice_bounds-read-end c = sym (length-take-le _ _ (search rules))
+
+pub slice_bounds-write-end : goal.slice_bounds-write-end
+slice_bounds-write-end c = sym (length-take-le _ _ (search rules))

@@ -1,0 +1,42 @@
+use Prim.Native.Nat.{◌-◌}
+use mathlib.Core.Path.{sym, ◌∙◌}
+use mathlib.Core.Logic.{⊎_elim}
+use native.Mathlib.Omega.{arith}
+use borrow.Author.Rules.{rules}
+use borrow.Author.Count.{below_more, below_none}
+use borrow.Author.Tests.{not-true, not-false}
+use Rattle.netlist.proofs.Loops.{clash}
+use Rattle.netlist.specs.Working.Sound.{ready_gate}
+use Rattle.order.proofs.next_ready.Goals as goal
+
+pub loop-i-init : goal.loop-i-init
+loop-i-init c = (search rules, below_none _)
+
+pub ready_gate-requires : goal.ready_gate-requires
+ready_gate-requires c = (omega (arith, c.requires.firsts c.loop-i.i (omega arith)), omega (arith, c.requires.seconds c.loop-i.i (omega arith)))
+
+pub returns-then-ready_gate : goal.returns-then-ready_gate
+returns-then-ready_gate c =
+    record {
+      within = omega arith;
+      fresh = λ h. not-true _ c.if-not-marks-i.true;
+      ready = λ h. sym c.ready_gate.ensures ∙ c.if-ready_gate.true;
+      none = λ e. absurd (omega arith);
+    }
+
+pub loop-i-preserved : goal.loop-i-preserved
+loop-i-preserved c =
+    (
+  search rules,
+  below_more _ _ c.loop-i.invariant.1
+      (⊎_elim (λ w q. sym w.2.ensures ∙ w.3.left) (λ w q. absurd (clash (sym (not-false _ w.left) ∙ q))) c.if-not-marks-i.branch),
+)
+
+pub returns : goal.returns
+returns c =
+    record {
+      within = omega arith;
+      fresh = λ h. absurd (omega arith);
+      ready = λ h. absurd (omega arith);
+      none = λ e i h. c.loop-i.invariant.1 i (omega arith);
+    }

@@ -1,0 +1,11 @@
+-- `put_step`: three bytes of one line, so at most 12 bytes of text.
+use native.Mathlib.Omega.{arith}
+use Rattle.report.proofs.Spelling.{shown_short}
+use Rattle.pieces.proofs.Putting.{put_within, put_then}
+use Rattle.report.proofs.lines.put_step.Goals as goal
+
+pub put_last_field-requires : goal.put_last_field-requires
+put_last_field-requires c = omega arith
+
+pub returns : goal.returns
+returns c = put_within (shown_short c.args.vector c.args.old c.args.new (omega arith) (omega arith) (omega arith)) (put_then (put_then c.put_number-fed.ensures c.put_field-shown.ensures) c.put_last_field.ensures)

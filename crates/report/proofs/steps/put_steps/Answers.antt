@@ -1,0 +1,52 @@
+-- `put_steps`: the lines of the steps passed stand in the text, and both designs are in the pair reached.
+use borrow.Author.Rules.{rules}
+use Prim.Native.Nat.{ℕ, ◌-◌}
+use mathlib.Core.List.{List}
+use mathlib.Core.Path.{ap₂}
+use native.Mathlib.Omega.{arith}
+use Rattle.machine.specs.declared.Pair.{Pair}
+use Rattle.machine.specs.Meaning.Machine.{step}
+use Rattle.machine.specs.Meaning.Tables.{Tables, old_machine, new_machine}
+use Rattle.report.specs.Meaning.Text.{shown_line, shown_at}
+use Rattle.report.proofs.Listing.{Listed, listed_none, listed_more, listed_all}
+use Rattle.report.proofs.steps.put_steps.Goals as goal
+
+abbrev Shown : Tables → Pair → List ℕ → ℕ → List ℕ → List ℕ → ℕ → ℕ → Pair → Type 0
+Shown t = Listed (shown_at (old_machine t) (new_machine t)) (step (old_machine t) (new_machine t)) 12
+
+pub loop-i-init : goal.loop-i-init
+loop-i-init c = (omega arith, c.requires.small, listed_none _ _ 12 _ _ _ _)
+
+pub next_pair-after-requires : goal.next_pair-after-requires
+next_pair-after-requires c =
+    let conj = search rules in
+    record { small = conj.0; vector_bound = conj.1 }
+
+pub entry_at-old-requires : goal.entry_at-old-requires
+entry_at-old-requires c =
+    let conj = search rules in
+    record { vectors_bound = conj.0; state_bound = conj.1.0; vector_bound = conj.1.1 }
+
+pub entry_at-new-requires : goal.entry_at-new-requires
+entry_at-new-requires c =
+    let conj = search rules in
+    record { vectors_bound = conj.0; state_bound = conj.1.0; vector_bound = conj.1.1 }
+
+pub put_step-end-requires : goal.put_step-end-requires
+put_step-end-requires c =
+    let conj = search rules in
+    record { at_in_bounds = conj.0; vector_bound = conj.1.0; bound = conj.1.1.0; bound_2 = conj.1.1.1 }
+
+pub loop-i-preserved : goal.loop-i-preserved
+loop-i-preserved c =
+    (
+  omega arith,
+  c.next_pair-after.ensures.1,
+  listed_more _ _ (omega arith) c.loop-i.invariant.2 c.wide-vector.ensures.0
+      (ap₂ (shown_line _) c.entry_at-old.ensures.0 c.entry_at-new.ensures.0)
+      c.next_pair-after.ensures.0
+      c.put_step-end.ensures,
+)
+
+pub returns : goal.returns
+returns c = listed_all _ _ c.loop-i.invariant.2 (omega arith)
