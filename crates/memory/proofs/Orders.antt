@@ -2,7 +2,7 @@
 use Prim.Native.Nat.{ℕ}
 use mathlib.Core.Path.{◌≡◌, refl, sym, ◌∙◌, ap, subst}
 use mathlib.Core.Logic.{◌⊎◌, ⊎_elim}
-use mathlib.Core.List.{List, ◌∷◌}
+use mathlib.Core.List.{List, ◌∷◌, []}
 use borrow.Author.Tests.{eq-eqb, ne_eqb}
 use Rattle.memory.specs.Meaning.Orders.{NoneBefore, FirstIn, FirstNumber, earlier}
 use Rattle.memory.specs.Meaning.Refusals.{Free}
@@ -69,6 +69,7 @@ earlier_behind k ks a b n m = rw (ne_eqb k a n, ne_eqb k b m)
 
 module _ {P Q R : ℕ → Type 0} (one : (n : ℕ) → P n → R n) (two : (n : ℕ) → Q n → R n) (either : (n : ℕ) → R n → P n ⊎ Q n) where
   none_before_either : {ks : List ℕ} {a b : ℕ} → P a → Q b → NoneBefore P ks a → NoneBefore Q ks b → FirstIn R ks (earlier ks a b)
+  none_before_either {ks = []} {b = b} p q x14 g = elim x14 [ ]
   none_before_either {ks = a ∷ ks} {b = b} p q NoneBefore.here g = rw (earlier_left a ks a b refl) (first_here (one a p))
   none_before_either {ks = b ∷ ks} {a} p q (NoneBefore.later n f) NoneBefore.here = rw (earlier_right b ks a b (λ e. n (subst P (sym e) p)) refl) (first_here (two b q))
   none_before_either {ks = k ∷ ks} {a} {b} p q (NoneBefore.later n f) (NoneBefore.later m g) =

@@ -105,6 +105,7 @@ module _ {P : ℕ → Type 0} where
 
   place_none_before : {n m : ℕ} (ks : List ℕ) → NoneBefore P ks n → P m → place_in ks n ≤ place_in ks m
   unfolding place_in
+  place_none_before {n = n} {m = m} [] x'' p = elim x'' [ ]
   place_none_before (k ∷ ks) NoneBefore.here p = rw (eq-eqb k k refl) (omega arith)
   place_none_before {n} {m} (k ∷ ks) (NoneBefore.later a f) p = go (ℕ_discrete k m) (ℕ_discrete k n) (place_none_before ks f p)
     where

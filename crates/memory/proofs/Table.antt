@@ -28,6 +28,7 @@ asked true false c t p q = absurd q
 asked false b c t p q = absurd p
 
 below_at : (f : ℕ → Bool) (j : ℕ) {ks : List ℕ} {k : ℕ} → T (below f j ks) → Stands ks k → T (f j) → T (f k) → j < k
+below_at f j {ks = []} t x14 p q = elim x14 [ ]
 below_at f j {ks = k ∷ ks} t Stands.first p q =
     ltb→lt j k (asked (f j) (f k) (ltb j k) (and_left (cond (f j) (cond (f k) (ltb j k) true) true) (below f j ks) t) p q)
 below_at f j {ks = k ∷ ks} t (Stands.behind s) p q = below_at f j (and_right (cond (f j) (cond (f k) (ltb j k) true) true) (below f j ks) t) s p q
@@ -78,6 +79,7 @@ numbered_of one r = record { among = r.among; rises = r.rises; each = λ n p. r.
 
 -- no call is refused by 0, or by a number that is not in the order
 positive : {ks : List ℕ} {n : ℕ} → T (above_0 ks) → Stands ks n → 0 < n
+positive {ks = []} t x6 = elim x6 [ ]
 positive {ks = k ∷ ks} t Stands.first = ltb→lt 0 k (and_left (ltb 0 k) (above_0 ks) t)
 positive {ks = k ∷ ks} t (Stands.behind s) = positive (and_right (ltb 0 k) (above_0 ks) t) s
 
