@@ -2,6 +2,8 @@
 // then an empty line. A design is shown by its image in hexadecimal, also the one beside a refusal. Standard input has a question a
 // line: a name, a colon, and the text of the drawing, in which \n, \t, \r, \\ and \xHH stand for bytes, and \z for as many zero bytes
 // as make the text a mebibyte long. Behind each text stand leftovers of those before.
+#![tactic(auto)]
+
 mod escapes;
 
 ghost use Rattle.std.specs.Prelude.{◌≡◌, ◌+◌, ◌≤◌, length};

@@ -1,4 +1,6 @@
 // Reads two netlist images back to back, and prints whether the second design can replace the first whatever state either wakes in.
+#![tactic(auto)]
+
 use limits::Image;
 
 // Room for any text: what stands in front of a list, and a line for each of its 32,768 steps.

@@ -1,5 +1,7 @@
 // Reads the number that names the allowed vectors and two netlist images, back to back, and prints whether the second design can replace
 // the first, whatever state either wakes in, where no other vectors occur.
+#![tactic(auto)]
+
 ghost use Rattle.std.specs.Prelude.{◌≡◌, ◌+◌, ◌*◌, ◌≤◌, length};
 ghost use Rattle.streams.specs.Meaning.Input.{Within};
 ghost use Rattle.streams.specs.Meaning.Output.{Sends};

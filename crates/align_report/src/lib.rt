@@ -1,6 +1,8 @@
 // What the program `align` does with its input, and what is done under any panel: both images are read, the designs compared, and the
 // answer written as text. Each answer is taken apart before anything is written, so that nothing else stands beside a refusal. Tables
 // and scratch are held here, for designs at every limit.
+#![tactic(auto)]
+
 mod numbers_of;
 
 ghost use Rattle.machine.specs.Meaning.Lent.{lent_of};

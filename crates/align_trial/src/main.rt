@@ -3,6 +3,8 @@
 // hexadecimal with a space between them. A heading that begins with 0, 1 or 2 is given so many bytes of list, any other 32,768. Where it
 // begins with a hash, the first eight bytes are the number that names the allowed vectors, as for `align_allowed`; else all are allowed.
 // Of a text of more than 4,096 bytes the first lines are printed, and a line with how many bytes it has and a sum of them all.
+#![tactic(auto)]
+
 mod lines;
 
 ghost use Rattle.std.specs.Prelude.{◌+◌, ◌*◌, ◌≤◌, ◌<◌, length};

@@ -1,6 +1,8 @@
 // Compares the calls on designs and on images with a second way that shares no code with them. The product sorts the cells and sweeps over
 // them once; here the value of a net is found by recursion through the cells that drive it. The product takes an image field by field; here
 // a second reader and writer work on single bits, and each number has its own test over the whole image.
+#![tactic(auto)]
+
 mod compare;
 mod draw;
 mod images;

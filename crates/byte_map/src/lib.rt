@@ -1,5 +1,7 @@
 // A map whose numbers are at most 255, kept a byte a pair: where two maps are needed at once, it leaves the slice of 16-bit numbers, in which
 // maps are sought and lists are found, to the other.
+#![tactic(auto)]
+
 ghost use Rattle.std.specs.Prelude.{ℕ, ◌<◌, ◌≤◌, length, get_or};
 ghost use Rattle.byte_map.specs.Working.{Copied};
 

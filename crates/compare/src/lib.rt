@@ -1,4 +1,6 @@
 // Two designs to a verdict: their tables are written, and judged. A refusal that comes only then clears the tables again.
+#![tactic(auto)]
+
 ghost use Rattle.machine.specs.Meaning.Lent.{lent_of, left_of};
 ghost use Rattle.machine.specs.Meaning.Tables.{tables_of};
 ghost use Rattle.memory.specs.Meaning.Tables.{table_of, lengths_of};

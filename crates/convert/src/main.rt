@@ -1,4 +1,6 @@
 // Reads a drawing in ASCII AIGER, and writes the image of its design.
+#![tactic(auto)]
+
 use converter::Text;
 use limits::Image;
 

@@ -1,4 +1,6 @@
 // What the program `convert` does with its input: a drawing in ASCII AIGER is read, and the image of its design written, or its refusal.
+#![tactic(auto)]
+
 ghost use Rattle.std.specs.Prelude.{◌≡◌, [], ◌+◌, ◌≤◌, length, take};
 ghost use Rattle.limits.specs.Meaning.Layout.{most_bytes};
 ghost use Rattle.memory.specs.Working.Tests.{Tells};

@@ -1,4 +1,6 @@
 // The list of a pair, down a map that is right: each step is chosen by the one before.
+#![tactic(auto)]
+
 ghost use Rattle.std.specs.Prelude.{◌<◌};
 ghost use Rattle.machine.specs.Meaning.Tables.{In};
 ghost use Rattle.memory.specs.Working.Tests.{Tells};

@@ -1,4 +1,6 @@
 // The design that a drawing draws: its ANDs and then its NOT cells, with the nets that they read.
+#![tactic(auto)]
+
 mod cells;
 
 ghost use Rattle.std.specs.Prelude.{◌≡◌, ◌+◌, ◌≤◌};

@@ -2,6 +2,8 @@
 //
 // The sources are set first; then one sweep over the kept cells, in an order in which each reads only nets that have their value already,
 // sets theirs. The nets of dead cells stay 0.
+#![tactic(auto)]
+
 ghost use Rattle.std.specs.Prelude.{◌≡◌, ℕ, ◌+◌, ◌^◌, ◌<◌, ◌≤◌, get_or};
 ghost use Rattle.numbers.specs.Meaning.Bits.{horner};
 ghost use Rattle.memory.specs.Working.Filling.{Filled};

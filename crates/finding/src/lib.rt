@@ -1,4 +1,6 @@
 // The trace or list of one pair, by a map that is right.
+#![tactic(auto)]
+
 ghost use Rattle.memory.specs.Meaning.Tables.{table_of};
 ghost use Rattle.std.specs.Prelude.{◌≡◌, ◌≤◌, length};
 ghost use Rattle.machine.specs.Meaning.Tables.{pairs, at, In, tables_of};

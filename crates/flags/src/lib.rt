@@ -1,5 +1,7 @@
 // Maps and marks that say 1 where something holds of a pair and 0 elsewhere: where some allowed vector shows a difference, of outputs or of
 // watched values, where a map holds 0, where it holds more. And which vector to take to show a difference.
+#![tactic(auto)]
+
 ghost use Rattle.std.specs.Prelude.{◌≡◌, ◌<◌, ◌≤◌, length, get_or};
 ghost use Rattle.machine.specs.Meaning.Tables.{pairs, In};
 ghost use Rattle.numbers.specs.Meaning.Count.{count_of};

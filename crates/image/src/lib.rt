@@ -1,4 +1,6 @@
 // The netlist image: its length, and the design that it spells.
+#![tactic(auto)]
+
 mod decode;
 
 ghost use Rattle.std.specs.Prelude.{◌≡◌};

@@ -1,4 +1,6 @@
 // Reads one netlist image, and prints the sizes of its design.
+#![tactic(auto)]
+
 use limits::Image;
 
 fn main() {

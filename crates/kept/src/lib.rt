@@ -2,6 +2,8 @@
 //
 // They are found backwards: a cell that drives a net that a flip-flop reads or an output shows is kept, and so is one that drives a net
 // that a kept cell reads.
+#![tactic(auto)]
+
 ghost use Rattle.std.specs.Prelude.{◌≡◌, ◌<◌};
 ghost use Rattle.netlist.specs.Working.Sound.{Sound};
 ghost use Rattle.kept.specs.Working.{ends_of, end_net, row_net, InRow, TellsKept};

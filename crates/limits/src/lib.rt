@@ -1,4 +1,6 @@
 // How a netlist image is laid out: its limits, and how wide its fields are.
+#![tactic(auto)]
+
 ghost use Rattle.limits.specs.Meaning.Bounds.{AreLimits};
 
 // The image format: the limits of its sizes, the widths of its fields and the bytes of the largest image, named once.

@@ -1,6 +1,8 @@
 // Lines of numbers: digits, one space between, a line feed behind.
 //
 // A text is scanned from the front. Numbers of any length are read; from CAP on they are not told apart, since every limit is lower.
+#![tactic(auto)]
+
 ghost use Rattle.std.specs.Prelude.{◌≡◌, ◌<◌, ◌≤◌, length, drop};
 ghost use Rattle.lines.specs.Meaning.Spelling.{digit};
 ghost use Rattle.lines.specs.Working.Scanning.{cap, NumberAt, FieldAt};

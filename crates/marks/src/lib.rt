@@ -1,4 +1,6 @@
 // The states that one design may be in, as marks, and where a list of vectors moves them.
+#![tactic(auto)]
+
 ghost use Rattle.std.specs.Prelude.{ℕ, ◌+◌, ◌*◌, ◌<◌, ◌≤◌, length, get_or};
 ghost use Rattle.std.proofs.Math.Seq.{slice};
 ghost use Rattle.machine.specs.Meaning.Lists.{run};

@@ -1,4 +1,6 @@
 // Slices that a caller lends, and the numbers by which a call is turned away.
+#![tactic(auto)]
+
 ghost use Rattle.std.specs.Prelude.{◌≡◌, ◌<◌, min, length};
 ghost use Rattle.memory.specs.Meaning.Slices.{Cleared};
 ghost use Rattle.memory.specs.Meaning.Orders.{table_order};

@@ -1,4 +1,6 @@
 // Netlists: gates, cells and designs.
+#![tactic(auto)]
+
 ghost use Rattle.std.specs.Prelude.{◌≡◌, get_or};
 ghost use Rattle.netlist.specs.Meaning.Gates.{kind_of, first_of, second_of};
 

@@ -1,5 +1,7 @@
 // What a map, and a call for one pair, does first: it takes the lengths of the slices that it is lent, looks for what turns it away, and
 // clears them.
+#![tactic(auto)]
+
 ghost use Rattle.std.specs.Prelude.{length};
 ghost use Rattle.memory.specs.Meaning.Refusals.{FirstOrNone};
 ghost use Rattle.machine.specs.Meaning.Faults.{VectorsFault, StateFault};

@@ -2,6 +2,8 @@
 //
 // Of the kept cells that are not placed yet, the lowest that reads only sources and placed cells is placed next. Where none can be
 // placed, each of those left reads one of them, so some of them lie on a loop.
+#![tactic(auto)]
+
 ghost use Rattle.std.specs.Prelude.{◌≡◌, true, false, ◌+◌, ◌-◌, ◌<◌, get_or};
 ghost use Rattle.memory.specs.Meaning.Refusals.{FirstOrNone};
 ghost use Rattle.memory.specs.Meaning.Slices.{Zero};

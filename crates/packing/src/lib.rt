@@ -1,4 +1,6 @@
 // Fields of a design that stand together in the image, packed into one number each, so that a bit of the image is a bit of one number.
+#![tactic(auto)]
+
 ghost use Rattle.std.specs.Prelude.{◌≡◌, ◌+◌, ◌*◌, ◌^◌, ◌<◌, ◌≤◌};
 ghost use Rattle.memory.specs.Working.Filling.{Filled};
 ghost use Rattle.netlist.specs.Meaning.Gates.{first_of, second_of};

@@ -1,4 +1,6 @@
 // Which vectors can occur at the inputs of two designs, and the number that names them.
+#![tactic(auto)]
+
 ghost use Rattle.std.specs.Prelude.{◌≡◌, ◌^◌, ◌≤◌};
 ghost use Rattle.machine.specs.Meaning.Allowed.{every_vector};
 ghost use Rattle.panel.specs.Meaning.Panel.{allowed_by};

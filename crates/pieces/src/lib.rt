@@ -1,4 +1,6 @@
 // The pieces of a text: words and numbers. Each is written at a place of the text and says where it ends.
+#![tactic(auto)]
+
 ghost use Rattle.std.specs.Prelude.{◌+◌, ◌<◌, ◌≤◌, ◌≡◌, ◌++◌, length};
 ghost use Rattle.pieces.specs.Meaning.Pieces.{spelled, newline};
 ghost use Rattle.pieces.specs.Working.Put.{Put};

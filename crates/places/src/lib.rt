@@ -1,5 +1,7 @@
 // Places in tables and maps: entries, numbers of pairs, the pair after a step, and the step before an entry of a list; and which vectors
 // are allowed.
+#![tactic(auto)]
+
 ghost use Rattle.std.specs.Prelude.{◌≡◌, ◌<◌, ◌≤◌, length, get_or, take};
 ghost use Rattle.machine.specs.declared.Prior.{Prior};
 ghost use Rattle.machine.specs.Meaning.Pick.{after};

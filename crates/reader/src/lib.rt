@@ -1,4 +1,6 @@
 // Bits and bit fields of an image, and the reader that knows its bytes and its bit position.
+#![tactic(auto)]
+
 ghost use Rattle.std.specs.Prelude.{◌≡◌, ◌^◌, ◌<◌, ◌≤◌};
 ghost use Rattle.reader.specs.Meaning.Fields.{bit_at, field_at};
 ghost use Rattle.reader.specs.Working.Taking.{opened, taken, run_at};

@@ -1,5 +1,7 @@
 // The text that the program `align` prints, as bytes in a lent slice. What is printed is a function of the numbers, lists
 // and tables that it is given; who computes these stands above. Each call hands back how many bytes the text has.
+#![tactic(auto)]
+
 mod lines;
 mod steps;
 

@@ -1,4 +1,6 @@
 // One clock of a design, and the tables of all its clocks.
+#![tactic(auto)]
+
 mod tables;
 
 ghost use Rattle.memory.specs.Meaning.Tables.{table_of, lengths_of};

@@ -1,5 +1,7 @@
 // Standard input as a whole, and which stream an answer goes to. A read or a write that fails is told, so that nothing is answered of half
 // an input, and no answer is lost in silence.
+#![tactic(auto)]
+
 ghost use Rattle.std.specs.Prelude.{◌≤◌, ◌≡◌, length};
 ghost use Rattle.io.specs.Counts.{IsPrefixLen};
 ghost use Rattle.pieces.specs.Meaning.Pieces.{Printed};

@@ -1,6 +1,8 @@
 // What turns a call away that takes the tables of two designs: sizes out of range, a slice too short, a next state that is no state, a
 // number that allows no vector or one that there is not. No number looks into what a design shows, so of its outputs and watched values
 // only the length of the shorter table is taken (`old_shown`, `new_shown`).
+#![tactic(auto)]
+
 ghost use Rattle.std.specs.Prelude.{◌*◌, ◌≤◌, length};
 ghost use Rattle.memory.specs.Meaning.Refusals.{FirstOrNone};
 ghost use Rattle.memory.specs.Working.Tests.{Splits, Tells};

@@ -31,6 +31,8 @@
 // vectors are allowed. length_of and read take no list of numbers: their image stands behind an x. An answer shows each written slice behind
 // a bar, as a list, 00*0 for an empty one; of one with more than 64 runs of one value the first 64 runs, and a sum in which an entry counts
 // by where it stands.
+#![tactic(auto)]
+
 mod calls;
 mod designs;
 mod show;

@@ -1,4 +1,6 @@
 // The watched nets beside a design: what is wrong with their numbers, and the numbers by value.
+#![tactic(auto)]
+
 ghost use Rattle.watched.specs.Working.Watching.{Takes};
 
 use netlist::Design;

@@ -1,4 +1,6 @@
 // Writing the netlist image of a design.
+#![tactic(auto)]
+
 mod layout;
 
 ghost use Rattle.std.specs.Prelude.{length};

@@ -10,7 +10,7 @@ use borrow.Author.Rules.{rules}
 use Rattle.drawing.proofs.invert.Goals as goal
 
 pub loop-v-init : goal.loop-v-init
-loop-v-init c = (search rules, inverted_none (λ u. get_or c.args.t3 u false) (2 + c.args.d.inputs + c.args.d.latches + c.args.d.ands) c.args.owned c.requires.1.size)
+loop-v-init c = (search rules, inverted_none (λ u. get_or c.args.marks u false) (2 + c.args.d.inputs + c.args.d.latches + c.args.d.ands) c.args.owned c.requires.1.size)
 
 pub loop-v-preserved-then-marks-v : goal.loop-v-preserved-then-marks-v
 loop-v-preserved-then-marks-v c = (search rules, inverted_yes c.loop-v.invariant.1 c.if-marks-v.true (omega (arith, c.requires.0.few_variables)))

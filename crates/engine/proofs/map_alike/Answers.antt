@@ -13,24 +13,24 @@ use Rattle.engine.proofs.map_alike.Goals as goal
 pub returns-then-n-ne0 : goal.returns-then-n-ne0
 returns-then-n-ne0 c =
     record {
-  keeps = ((c.begin_map-n.ensures.for_tables.each c.args.old-out.now c.args.old-seen.now c.args.new-out.now c.args.new-seen.now (record { old = sym c.shorter-old_shown.ensures; new = sym c.shorter-new_shown.ensures })).some c.if-n-ne0.true, c.begin_map-n.ensures.emptied.written.zero);
+  keeps = ((c.begin_map-n.ensures.for_tables.each c.args.old_out.now c.args.old_seen.now c.args.new_out.now c.args.new_seen.now (record { old = sym c.shorter-old_shown.ensures; new = sym c.shorter-new_shown.ensures })).some c.if-n-ne0.true, c.begin_map-n.ensures.emptied.written.zero);
   tidy = tidy_of c.begin_map-n.ensures.emptied;
 
 pub differ-requires : goal.differ-requires
 differ-requires c =
-    let f = (c.begin_map-n.ensures.for_tables.each c.args.old-out.now c.args.old-seen.now c.args.new-out.now c.args.new-seen.now (record { old = sym c.shorter-old_shown.ensures; new = sym c.shorter-new_shown.ensures })).none c.if-n-ne0.false in
+    let f = (c.begin_map-n.ensures.for_tables.each c.args.old_out.now c.args.old_seen.now c.args.new_out.now c.args.new_seen.now (record { old = sym c.shorter-old_shown.ensures; new = sym c.shorter-new_shown.ensures })).none c.if-n-ne0.false in
     record { ample = (good f).outs; ample_2 = (good f).seens; sizes_in_bounds = omega (arith, (fits_each (room_enough f)).2, c.begin_map-n.ensures.emptied.reach.size) }
 
 pub mark_alike-tally-requires : goal.mark_alike-tally-requires
 mark_alike-tally-requires c =
-    let f = (c.begin_map-n.ensures.for_tables.each c.args.old-out.now c.args.old-seen.now c.args.new-out.now c.args.new-seen.now (record { old = sym c.shorter-old_shown.ensures; new = sym c.shorter-new_shown.ensures })).none c.if-n-ne0.false in
+    let f = (c.begin_map-n.ensures.for_tables.each c.args.old_out.now c.args.old_seen.now c.args.new_out.now c.args.new_seen.now (record { old = sym c.shorter-old_shown.ensures; new = sym c.shorter-new_shown.ensures })).none c.if-n-ne0.false in
 let h = fits_each (room_enough f) in
 let e = c.begin_map-n.ensures.emptied in
     record { with_some = with_begun _ (begun _ (good f) c.differ.ensures); sizes_in_bounds = omega (arith, h.2, e.reach.size, c.differ.ensures.long); sizes_in_bounds_2 = omega (arith, h.0, e.written.size); zero = e.written.zero }
 
 pub returns : goal.returns
 returns c =
-    let f = (c.begin_map-n.ensures.for_tables.each c.args.old-out.now c.args.old-seen.now c.args.new-out.now c.args.new-seen.now (record { old = sym c.shorter-old_shown.ensures; new = sym c.shorter-new_shown.ensures })).none c.if-n-ne0.false in
+    let f = (c.begin_map-n.ensures.for_tables.each c.args.old_out.now c.args.old_seen.now c.args.new_out.now c.args.new_seen.now (record { old = sym c.shorter-old_shown.ensures; new = sym c.shorter-new_shown.ensures })).none c.if-n-ne0.false in
     let e = c.begin_map-n.ensures.emptied in
     record {
       keeps = (f, c.mark_alike-tally.ensures.with_each.each _ _ _ _ (begun _ (good f) c.differ.ensures));

@@ -8,11 +8,6 @@ use Rattle.engine.proofs.mark_alignable.Goals as goal
 pub search-requires : goal.search-requires
 search-requires c = record { walk = record { nexts = c.requires.with_some.has.good.nexts; room = c.requires.sizes_in_bounds }; by_index = begun_one _ c.requires.with_some.has }
 
-pub mark_positive-many-requires : goal.mark_positive-many-requires
-mark_positive-many-requires c =
-    let conj = search rules in
-    record { n_in_bounds = conj.0; n_in_bounds_2 = conj.1.0; n_bound = conj.1.1 }
-
 pub returns : goal.returns
 returns c =
     let n = c.total-end.ensures.0 in

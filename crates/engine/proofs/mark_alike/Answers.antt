@@ -8,11 +8,6 @@ use Rattle.engine.proofs.mark_alike.Goals as goal
 pub search-explored-requires : goal.search-explored-requires
 search-explored-requires c = record { walk = record { nexts = c.requires.with_some.has.good.nexts; room = c.requires.sizes_in_bounds }; by_index = begun_one _ c.requires.with_some.has }
 
-pub mark_positive-count-requires : goal.mark_positive-count-requires
-mark_positive-count-requires c =
-    let conj = search rules in
-    record { n_in_bounds = conj.0; n_in_bounds_2 = conj.1.0; n_bound = conj.1.1 }
-
 pub returns : goal.returns
 returns c =
     let n = c.total-end.ensures.0 in

@@ -4,11 +4,6 @@ use Rattle.seek.proofs.Sets.{begun, begun_one, map_traces}
 use borrow.Author.Rules.{rules}
 use Rattle.engine.proofs.write_trace.Goals as goal
 
-pub differ-requires : goal.differ-requires
-differ-requires c =
-    let conj = search rules in
-    record { ample = conj.0; ample_2 = conj.1.0; sizes_in_bounds = conj.1.1 }
-
 pub search-requires : goal.search-requires
 search-requires c = record { walk = record { nexts = c.requires.good.nexts; room = omega (arith, c.requires.sizes_in_bounds, c.differ.ensures.long) }; by_index = begun_one _ (begun _ c.requires.good c.differ.ensures) }
 

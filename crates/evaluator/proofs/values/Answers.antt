@@ -8,7 +8,7 @@ use Prim.Native.Nat.{ℕ, ◌-◌}
 use Rattle.evaluator.proofs.values.Goals as goal
 
 pub loop-k-init : goal.loop-k-init
-loop-k-init c = (search rules, swept_none c.args.t1 c.args.s c.args.v c.args.t2.cells c.sources-vals.result c.sources-vals.ensures)
+loop-k-init c = (search rules, swept_none c.args.d c.args.s c.args.v c.args.plan.cells c.sources-vals.result c.sources-vals.ensures)
 
 pub offset_bounds-plan-k : goal.offset_bounds-plan-k
 offset_bounds-plan-k c = omega (arith, ordered_few c.requires.ordered, c.requires.sound.few_cells)
@@ -38,11 +38,11 @@ pub loop-k-preserved : goal.loop-k-preserved
 loop-k-preserved c =
     let a = c.args in
     let l = c.loop-k in
-    (search rules, swept_more a.t1 a.s a.v a.t2.cells a.t2.kept c.requires l.k (omega arith) l.vals l.invariant.1 c.gate_value.result c.gate_value.ensures)
+    (search rules, swept_more a.d a.s a.v a.plan.cells a.plan.kept c.requires l.k (omega arith) l.vals l.invariant.1 c.gate_value.result c.gate_value.ensures)
 
 pub returns : goal.returns
 returns c =
     let a = c.args in
     let l = c.loop-k in
-    let e : l.k ≡ a.t2.kept = omega arith in
-    swept_all a.t1 a.s a.v a.t2.kept a.t2.cells l.vals c.requires.ordered (subst (λ (k : ℕ). Swept a.t1 a.s a.v a.t2.cells k l.vals) e l.invariant.1)
+    let e : l.k ≡ a.plan.kept = omega arith in
+    swept_all a.d a.s a.v a.plan.kept a.plan.cells l.vals c.requires.ordered (subst (λ (k : ℕ). Swept a.d a.s a.v a.plan.cells k l.vals) e l.invariant.1)

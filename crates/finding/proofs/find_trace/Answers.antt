@@ -4,11 +4,6 @@ use Rattle.finding.proofs.Lists.{ready, trace_missing, trace_short, trace_steps,
 use borrow.Author.Rules.{rules}
 use Rattle.finding.proofs.find_trace.Goals as goal
 
-pub map_at-steps-requires : goal.map_at-steps-requires
-map_at-steps-requires c =
-    let conj = search rules in
-    record { few = conj.0; fact = conj.1.0; sizes_in_bounds = conj.1.1 }
-
 pub returns-then-steps-eq0 : goal.returns-then-steps-eq0
 returns-then-steps-eq0 c = trace_missing _ c.requires.good c.requires.map_for _ c.requires.fact _ _ c.map_at-steps.ensures c.if-steps-eq0.true
 
@@ -17,11 +12,6 @@ returns-then-list-steps c = trace_short _ c.requires.good c.requires.map_for _ c
 
 pub descend-end-requires : goal.descend-end-requires
 descend-end-requires c = record { walk = record { nexts = c.requires.good.nexts; room = c.requires.sizes_in_bounds }; ready = ready _ c.requires.good c.requires.map_for; descent = record { inside = c.requires.fact; some = omega (arith, c.map_at-steps.ensures, c.if-steps-eq0.false); fits = omega (arith, c.map_at-steps.ensures, c.if-list-steps.false) } }
-
-pub chosen_different-v-requires : goal.chosen_different-v-requires
-chosen_different-v-requires c =
-    let conj = search rules in
-    record { ample = conj.0; ample_2 = conj.1.0; fact = conj.1.1 }
 
 pub narrow-requires : goal.narrow-requires
 narrow-requires c = omega (arith, c.requires.good.nexts.few.few_vectors, differs_found _ c.requires.good _ _ (ends_different _ c.requires.good c.requires.map_for _ c.requires.fact _ _ c.map_at-steps.ensures _ _ c.descend-end.ensures.descended) c.chosen_different-v.ensures)

@@ -7,19 +7,19 @@ use Rattle.kept.proofs.end_net.Goals as goal
 pub returns-then-q-n : goal.returns-then-q-n
 returns-then-q-n c =
     let a = c.args in
-    sym (end_data a.t1 a.q (omega arith))
+    sym (end_data a.d a.q (omega arith))
 
 pub returns-then-q-n-2 : goal.returns-then-q-n-2
 returns-then-q-n-2 c =
     let a = c.args in
-    sym (end_enable a.t1 a.q (omega arith) (omega arith))
+    sym (end_enable a.d a.q (omega arith) (omega arith))
 
 pub returns-then-q-n-3 : goal.returns-then-q-n-3
 returns-then-q-n-3 c =
     let a = c.args in
-    sym (end_clear a.t1 a.q (omega arith) (omega arith))
+    sym (end_clear a.d a.q (omega arith) (omega arith))
 
 pub returns : goal.returns
 returns c =
     let a = c.args in
-    sym (end_shown a.t1 a.q (omega arith))
+    sym (end_shown a.d a.q (omega arith))

@@ -17,17 +17,17 @@ overflow_add-ends-in-loop-q c = omega (arith, finding_few c.loop-q.invariant, c.
 pub row_net-net-requires : goal.row_net-net-requires
 row_net-net-requires c =
     let l = c.loop-q in
-    in_row c.args.d l.list l.dead l.auto l.q c.loop-q-test.true l.invariant c.requires
+    in_row c.args.d l.list l.dead l.kept l.q c.loop-q-test.true l.invariant c.requires
 
 pub bounds-dead-i : goal.bounds-dead-i
 bounds-dead-i c =
     let l = c.loop-q in
-    omega (arith, next_cell c.args.d c.requires l.list l.dead l.auto l.q c.loop-q-test.true l.invariant c.row_net-net.result c.row_net-net.ensures c.if-base-net.true, c.requires.few_cells)
+    omega (arith, next_cell c.args.d c.requires l.list l.dead l.kept l.q c.loop-q-test.true l.invariant c.row_net-net.result c.row_net-net.ensures c.if-base-net.true, c.requires.few_cells)
 
 pub overflow_cast-list : goal.overflow_cast-list
 overflow_cast-list c =
     let l = c.loop-q in
-    omega (arith, next_cell c.args.d c.requires l.list l.dead l.auto l.q c.loop-q-test.true l.invariant c.row_net-net.result c.row_net-net.ensures c.if-base-net.true, c.requires.few_cells)
+    omega (arith, next_cell c.args.d c.requires l.list l.dead l.kept l.q c.loop-q-test.true l.invariant c.row_net-net.result c.row_net-net.ensures c.if-base-net.true, c.requires.few_cells)
 
 pub offset_bounds-list-kept : goal.offset_bounds-list-kept
 offset_bounds-list-kept c = omega (arith, finding_few c.loop-q.invariant, c.requires.few_cells)
@@ -35,12 +35,12 @@ offset_bounds-list-kept c = omega (arith, finding_few c.loop-q.invariant, c.requ
 pub bounds-list-kept : goal.bounds-list-kept
 bounds-list-kept c =
     let l = c.loop-q in
-    next_room c.args.d c.requires l.list l.dead l.auto l.q c.loop-q-test.true l.invariant c.row_net-net.result c.row_net-net.ensures c.if-base-net.true c.if-dead-i.true
+    next_room c.args.d c.requires l.list l.dead l.kept l.q c.loop-q-test.true l.invariant c.row_net-net.result c.row_net-net.ensures c.if-base-net.true c.if-dead-i.true
 
 pub bounds-dead-i-then-dead-i : goal.bounds-dead-i-then-dead-i
 bounds-dead-i-then-dead-i c =
     let l = c.loop-q in
-    omega (arith, next_cell c.args.d c.requires l.list l.dead l.auto l.q c.loop-q-test.true l.invariant c.row_net-net.result c.row_net-net.ensures c.if-base-net.true, c.requires.few_cells)
+    omega (arith, next_cell c.args.d c.requires l.list l.dead l.kept l.q c.loop-q-test.true l.invariant c.row_net-net.result c.row_net-net.ensures c.if-base-net.true, c.requires.few_cells)
 
 pub overflow_add-kept : goal.overflow_add-kept
 overflow_add-kept c = omega (arith, finding_few c.loop-q.invariant, c.requires.few_cells)
@@ -54,11 +54,11 @@ loop-q-smaller c = omega (arith, finding_few c.loop-q.invariant, c.loop-q-test.t
 pub loop-q-preserved : goal.loop-q-preserved
 loop-q-preserved c =
     let l = c.loop-q in
-    ⊎_elim (λ w. finding_rename c.args.d w.2 w.3 w.4 (next_new c.args.d c.requires l.list l.dead l.auto l.q c.loop-q-test.true l.invariant c.row_net-net.result c.row_net-net.ensures w.0.taken w.1.taken))
-    (λ o. ⊎_elim (λ w. finding_rename c.args.d w.2 w.3 w.4 (next_found c.args.d c.requires l.list l.dead l.auto l.q c.loop-q-test.true l.invariant c.row_net-net.result c.row_net-net.ensures w.0.taken w.1.left))
-    (λ w. finding_rename c.args.d w.1 w.2 w.3 (next_source c.args.d c.requires l.list l.dead l.auto l.q c.loop-q-test.true l.invariant c.row_net-net.result c.row_net-net.ensures w.0.left)) o) c.if-base-net.branch
+    ⊎_elim (λ w. finding_rename c.args.d w.2 w.3 w.4 (next_new c.args.d c.requires l.list l.dead l.kept l.q c.loop-q-test.true l.invariant c.row_net-net.result c.row_net-net.ensures w.0.taken w.1.taken))
+    (λ o. ⊎_elim (λ w. finding_rename c.args.d w.2 w.3 w.4 (next_found c.args.d c.requires l.list l.dead l.kept l.q c.loop-q-test.true l.invariant c.row_net-net.result c.row_net-net.ensures w.0.taken w.1.left))
+    (λ w. finding_rename c.args.d w.1 w.2 w.3 (next_source c.args.d c.requires l.list l.dead l.kept l.q c.loop-q-test.true l.invariant c.row_net-net.result c.row_net-net.ensures w.0.left)) o) c.if-base-net.branch
 
 pub returns : goal.returns
 returns c =
     let l = c.loop-q in
-    finding_all c.args.d l.list l.dead l.auto l.q c.loop-q-test.false l.invariant
+    finding_all c.args.d l.list l.dead l.kept l.q c.loop-q-test.false l.invariant

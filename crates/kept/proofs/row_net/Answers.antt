@@ -7,7 +7,7 @@ use Rattle.kept.proofs.row_net.Goals as goal
 pub returns-then-q-ends : goal.returns-then-q-ends
 returns-then-q-ends c =
     let a = c.args in
-    c.end_net.ensures ∙ sym (row_end a.t1 a.t2 a.q (omega arith))
+    c.end_net.ensures ∙ sym (row_end a.d a.list a.q (omega arith))
 
 pub offset_bounds-d-i : goal.offset_bounds-d-i
 offset_bounds-d-i c = omega (arith, c.requires.cell (omega arith))
@@ -18,9 +18,9 @@ bounds-d-i c = omega (arith, c.requires.cell (omega arith))
 pub returns-then-p-eq0 : goal.returns-then-p-eq0
 returns-then-p-eq0 c =
     let a = c.args in
-    c.first_of.ensures ∙ sym (row_first a.t1 a.t2 a.q (omega arith) (omega arith))
+    c.first_of.ensures ∙ sym (row_first a.d a.list a.q (omega arith) (omega arith))
 
 pub returns : goal.returns
 returns c =
     let a = c.args in
-    c.second_of.ensures ∙ sym (row_second a.t1 a.t2 a.q (omega arith) (λ e. omega arith))
+    c.second_of.ensures ∙ sym (row_second a.d a.list a.q (omega arith) (λ e. omega arith))

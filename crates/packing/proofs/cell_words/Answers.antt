@@ -11,7 +11,7 @@ use borrow.Author.Rules.{rules}
 use Rattle.packing.proofs.cell_words.Goals as goal
 
 pub loop-i-init : goal.loop-i-init
-loop-i-init c = (search rules, filled_none (λ k. cell_word (gate_at c.args.t1 k)) 0 most_cells)
+loop-i-init c = (search rules, filled_none (λ k. cell_word (gate_at c.args.d k)) 0 most_cells)
 
 pub bounds-d-i : goal.bounds-d-i
 bounds-d-i c = omega (arith, c.requires.few_cells)
@@ -28,10 +28,10 @@ bounds-words-i c = omega (arith, c.requires.few_cells)
 pub loop-i-preserved : goal.loop-i-preserved
 loop-i-preserved c =
     let l = c.loop-i in
-    (search rules, filled_more (λ k. cell_word (gate_at c.args.t1 k)) 0 most_cells l.i l.words c.cell_word.result (omega (arith, c.requires.few_cells)) c.cell_word.ensures l.invariant.1)
+    (search rules, filled_more (λ k. cell_word (gate_at c.args.d k)) 0 most_cells l.i l.words c.cell_word.result (omega (arith, c.requires.few_cells)) c.cell_word.ensures l.invariant.1)
 
 pub returns : goal.returns
 returns c =
     let l = c.loop-i in
-    let e : l.i ≡ c.args.t1.count = omega arith in
-    subst (λ (n : ℕ). Filled (λ k. cell_word (gate_at c.args.t1 k)) 0 most_cells n l.words) e l.invariant.1
+    let e : l.i ≡ c.args.d.count = omega arith in
+    subst (λ (n : ℕ). Filled (λ k. cell_word (gate_at c.args.d k)) 0 most_cells n l.words) e l.invariant.1

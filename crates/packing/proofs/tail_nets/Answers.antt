@@ -13,13 +13,13 @@ use borrow.Author.Rules.{rules}
 use Rattle.packing.proofs.tail_nets.Goals as goal
 
 pub overflow_mul-behind : goal.overflow_mul-behind
-overflow_mul-behind c = omega (arith, few_tails c.args.each c.args.t1 c.requires.0 c.requires.2)
+overflow_mul-behind c = omega (arith, few_tails c.args.each c.args.d c.requires.0 c.requires.2)
 
 pub overflow_add-tails : goal.overflow_add-tails
-overflow_add-tails c = omega (arith, few_tails c.args.each c.args.t1 c.requires.0 c.requires.2)
+overflow_add-tails c = omega (arith, few_tails c.args.each c.args.d c.requires.0 c.requires.2)
 
 pub loop-t-init : goal.loop-t-init
-loop-t-init c = (search rules, filled_none (tail_net c.args.each c.args.t1) 0 most_tails)
+loop-t-init c = (search rules, filled_none (tail_net c.args.each c.args.d) 0 most_tails)
 
 pub offset_bounds-d-k : goal.offset_bounds-d-k
 offset_bounds-d-k c = omega (arith, latch_of c.args.each _ c.loop-t.t c.requires.1 c.if-t-behind.true, c.requires.0.few_latches)
@@ -45,22 +45,22 @@ bounds-d-t c = omega (arith, c.requires.0.few_outputs)
 pub offset_bounds-nets-t : goal.offset_bounds-nets-t
 offset_bounds-nets-t c =
     let s = c.before.before.before in
-    omega (arith, few_tails s.args.each s.args.t1 s.requires.0 s.requires.2)
+    omega (arith, few_tails s.args.each s.args.d s.requires.0 s.requires.2)
 
 pub bounds-nets-t : goal.bounds-nets-t
 bounds-nets-t c =
     let s = c.before.before.before in
-    omega (arith, few_tails s.args.each s.args.t1 s.requires.0 s.requires.2)
+    omega (arith, few_tails s.args.each s.args.d s.requires.0 s.requires.2)
 
 pub overflow_add-t : goal.overflow_add-t
 overflow_add-t c =
     let s = c.before.before.before in
-    omega (arith, few_tails s.args.each s.args.t1 s.requires.0 s.requires.2)
+    omega (arith, few_tails s.args.each s.args.d s.requires.0 s.requires.2)
 
 pub loop-t-preserved : goal.loop-t-preserved
 loop-t-preserved c =
     let s = c.before.before.before in
-    let d = s.args.t1 in
+    let d = s.args.d in
     let w = s.args.each in
     let l = c.loop-t in
     let e : c.if-t-behind.net ≡ tail_net w d l.t = ⊎_elim (λ x. simp (lt-ltb _ _ x.0.taken) (x.5 ∙ x.4.ensures)) (λ x. simp (le-ltb _ _ x.0.left) x.2) c.if-t-behind.branch in
@@ -69,7 +69,7 @@ loop-t-preserved c =
 pub returns : goal.returns
 returns c =
     let l = c.loop-t in
-    let d = c.args.t1 in
+    let d = c.args.d in
     let w = c.args.each in
     let e : l.t ≡ w * d.latches + d.outputs = omega arith in
     subst (λ (n : ℕ). Filled (tail_net w d) 0 most_tails n l.nets) e l.invariant.1

@@ -5,24 +5,24 @@ use borrow.Author.Rules.{rules}
 use Rattle.ranges.proofs.net_over.Goals as goal
 
 pub returns-then-cell_net_over : goal.returns-then-cell_net_over
-returns-then-cell_net_over c = let f = rw c.if-cell_net_over.taken at c.cell_net_over.ensures in over_cell f.0 f.1 f.2
+returns-then-cell_net_over c = let f = rw c.if-cell_net_over.true at c.cell_net_over.ensures in over_cell f.0 f.1 f.2
 
 pub returns-then-listed_net_over : goal.returns-then-listed_net_over
-returns-then-listed_net_over c = let f = rw c.if-listed_net_over.taken at c.listed_net_over.ensures in DesignFault.read f.0 f.1 f.2
+returns-then-listed_net_over c = let f = rw c.if-listed_net_over.true at c.listed_net_over.ensures in DesignFault.read f.0 f.1 f.2
 
 pub returns-then-listed_net_over-2 : goal.returns-then-listed_net_over-2
-returns-then-listed_net_over-2 c = let f = rw c.if-listed_net_over-2.taken at c.listed_net_over-2.ensures in DesignFault.enable f.0 f.1 f.2
+returns-then-listed_net_over-2 c = let f = rw c.if-listed_net_over-2.true at c.listed_net_over-2.ensures in DesignFault.enable f.0 f.1 f.2
 
 pub slice_bounds-listed_net_over-end-3 : goal.slice_bounds-listed_net_over-end-3
 slice_bounds-listed_net_over-end-3 c = let g = c.before.before.before.before.before.before.before.before.before.before.before.before.before.before.before.before.before.good in search rules
 
 pub returns-then-listed_net_over-3 : goal.returns-then-listed_net_over-3
-returns-then-listed_net_over-3 c = let f = rw c.if-listed_net_over-3.taken at c.listed_net_over-3.ensures in DesignFault.clear f.0 f.1 f.2
+returns-then-listed_net_over-3 c = let f = rw c.if-listed_net_over-3.true at c.listed_net_over-3.ensures in DesignFault.clear f.0 f.1 f.2
 
 pub slice_bounds-listed_net_over-end-4 : goal.slice_bounds-listed_net_over-end-4
 slice_bounds-listed_net_over-end-4 c = let g = c.before.before.before.before.before.before.before.before.before.before.before.before.before.before.before.before.before.before.before.before.before.before.good in search rules
 
 pub returns : goal.returns
 returns c =
-    over_shown c.listed_net_over-4.result (rw c.if-cell_net_over.left at c.cell_net_over.ensures) (rw c.if-listed_net_over.left at c.listed_net_over.ensures)
-    (rw c.if-listed_net_over-2.left at c.listed_net_over-2.ensures) (rw c.if-listed_net_over-3.left at c.listed_net_over-3.ensures) c.listed_net_over-4.ensures
+    over_shown c.listed_net_over-4.result (rw c.if-cell_net_over.false at c.cell_net_over.ensures) (rw c.if-listed_net_over.false at c.listed_net_over.ensures)
+    (rw c.if-listed_net_over-2.false at c.listed_net_over-2.ensures) (rw c.if-listed_net_over-3.false at c.listed_net_over-3.ensures) c.listed_net_over-4.ensures

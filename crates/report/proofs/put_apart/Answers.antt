@@ -1,14 +1,8 @@
 -- `put_apart`: the head, the verdict and the trace are the whole text.
-use borrow.Author.Rules.{rules}
 use native.Mathlib.Omega.{arith}
 use lib.Seq.{length-take-le}
 use Rattle.pieces.proofs.Putting.{put_then, put_printed}
 use Rattle.report.proofs.put_apart.Goals as goal
-
-pub put_steps-requires : goal.put_steps-requires
-put_steps-requires c =
-    let conj = search rules in
-    record { small = conj.0; n_in_bounds = conj.1.0; n_in_bounds_2 = conj.1.1 }
 
 pub returns : goal.returns
 returns c =

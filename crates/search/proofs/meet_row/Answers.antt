@@ -2,7 +2,6 @@
 use mathlib.Core.Logic.{⊎_elim}
 use native.Mathlib.Omega.{arith}
 use native.Mathlib.Nat.{add-zero}
-use borrow.Author.Rules.{rules}
 use Rattle.places.proofs.Places.{few_pairs}
 use Rattle.search.proofs.Meets.{met_one, met_kept, met_few, met_writable}
 use Rattle.search.proofs.Chains.{along_inside, along_less}
@@ -11,11 +10,6 @@ use Rattle.search.proofs.meet_row.Goals as goal
 
 pub loop-y-init : goal.loop-y-init
 loop-y-init c = passed_start c.requires.chain (λ p s. s.1)
-
-pub place_of-place-requires : goal.place_of-place-requires
-place_of-place-requires c =
-    let conj = search rules in
-    record { s_lt_n = conj.0; v_lt_m = conj.1.0; n_bound = conj.1.1.0; m_bound = conj.1.1.1 }
 
 pub overflow_add-fresh : goal.overflow_add-fresh
 overflow_add-fresh c = omega (arith, met_few c.loop-y.invariant.met, few_pairs c.requires.writable.few)

@@ -13,11 +13,6 @@ search-requires c = record { walk = record { nexts = c.requires.with_some.has.go
 pub total-end-requires : goal.total-end-requires
 total-end-requires c = c.requires.with_some.has.good.nexts.few
 
-pub zeros-alike-requires : goal.zeros-alike-requires
-zeros-alike-requires c =
-    let conj = search rules in
-    record { n_in_bounds = conj.0; n_bound = conj.1 }
-
 pub put-requires : goal.put-requires
 put-requires c =
     let n = c.total-end.ensures.0 in
@@ -25,11 +20,6 @@ put-requires c =
 
 pub map_lists-lowest-requires : goal.map_lists-lowest-requires
 map_lists-lowest-requires c = record { nexts = c.requires.with_some.has.good.nexts; room = search rules }
-
-pub zeros-requires : goal.zeros-requires
-zeros-requires c =
-    let conj = search rules in
-    record { n_in_bounds = conj.0; n_bound = conj.1 }
 
 pub returns : goal.returns
 returns c =

@@ -6,11 +6,6 @@ use Rattle.seek.proofs.Copies.{map_copied}
 use borrow.Author.Rules.{rules}
 use Rattle.verdict.proofs.decide.Goals as goal
 
-pub take_back-requires : goal.take_back-requires
-take_back-requires c =
-    let conj = search rules in
-    record { n_in_bounds = conj.0; n_in_bounds_2 = conj.1 }
-
 pub find_trace-found-requires : goal.find_trace-found-requires
 find_trace-found-requires c = record { good = c.requires.mapped.good; sizes_in_bounds = search rules; map_for = map_copied _ c.requires.mapped.both.traces (written_end c.total-end.ensures.0 c.take_back.ensures); fact = (apart_of _ c.requires.mapped c.requires.lowest_below c.pair_at-p.ensures.0 (omega (arith, c.if-lowest-end.true, c.total-end.ensures.0))).inside }
 

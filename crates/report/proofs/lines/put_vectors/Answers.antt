@@ -1,5 +1,4 @@
 -- `put_vectors`: the lines of the vectors passed stand in the text.
-use borrow.Author.Rules.{rules}
 use Prim.Native.Nat.{◌-◌}
 use mathlib.Core.Path.{refl}
 use native.Mathlib.Omega.{arith}
@@ -8,11 +7,6 @@ use Rattle.report.proofs.lines.put_vectors.Goals as goal
 
 pub loop-i-init : goal.loop-i-init
 loop-i-init c = (omega arith, listed_none _ _ 4 tt _ _ _)
-
-pub put_vector-end-requires : goal.put_vector-end-requires
-put_vector-end-requires c =
-    let conj = search rules in
-    record { at_in_bounds = conj.0; vector_bound = conj.1 }
 
 pub loop-i-preserved : goal.loop-i-preserved
 loop-i-preserved c = (omega arith, listed_more _ _ (omega arith) c.loop-i.invariant.1 c.wide-vector.ensures.0 refl refl c.put_vector-end.ensures)

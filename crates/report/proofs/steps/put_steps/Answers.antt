@@ -1,5 +1,4 @@
 -- `put_steps`: the lines of the steps passed stand in the text, and both designs are in the pair reached.
-use borrow.Author.Rules.{rules}
 use Prim.Native.Nat.{ℕ, ◌-◌}
 use mathlib.Core.List.{List}
 use mathlib.Core.Path.{ap₂}
@@ -16,26 +15,6 @@ Shown t = Listed (shown_at (old_machine t) (new_machine t)) (step (old_machine t
 
 pub loop-i-init : goal.loop-i-init
 loop-i-init c = (omega arith, c.requires.small, listed_none _ _ 12 _ _ _ _)
-
-pub next_pair-after-requires : goal.next_pair-after-requires
-next_pair-after-requires c =
-    let conj = search rules in
-    record { small = conj.0; vector_bound = conj.1 }
-
-pub entry_at-old-requires : goal.entry_at-old-requires
-entry_at-old-requires c =
-    let conj = search rules in
-    record { vectors_bound = conj.0; state_bound = conj.1.0; vector_bound = conj.1.1 }
-
-pub entry_at-new-requires : goal.entry_at-new-requires
-entry_at-new-requires c =
-    let conj = search rules in
-    record { vectors_bound = conj.0; state_bound = conj.1.0; vector_bound = conj.1.1 }
-
-pub put_step-end-requires : goal.put_step-end-requires
-put_step-end-requires c =
-    let conj = search rules in
-    record { at_in_bounds = conj.0; vector_bound = conj.1.0; bound = conj.1.1.0; bound_2 = conj.1.1.1 }
 
 pub loop-i-preserved : goal.loop-i-preserved
 loop-i-preserved c =
