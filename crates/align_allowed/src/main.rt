@@ -20,10 +20,10 @@ const STEPS: usize = 32768;
 // Room for any text: what stands in front of a list, and a line for each of its steps.
 const TEXT: usize = 400 + 12 * STEPS;
 
-fn main() {
+fn main(rt: HostRuntime) {
     // One byte more than the number and two images have, so that longer input is noticed.
     let mut room = [0u8; NUMBER + 2 * Image::MOST_BYTES + 1];
-    let input = streams::read_input(&mut room);
+    let input = streams::read_input(&mut rt.stdin(), &mut room);
     let mut text = [0u8; TEXT];
     let sent = answer(&room, input, &mut text);
     streams::write_output(

@@ -106,9 +106,9 @@ module _ {next : List ℕ} {n m v : ℕ} where
     inverts_chains few = record { each = λ t h. record { few = few; begins = (w.firsts t h).under; falls = λ s l. (w.links s l).under } }
 
     -- what is on the chain of a state leads there
-    pub on_leads : {t b x s : ℕ} → b ≤ n → LastBelow next m v t b x → On link s x → get_or next (s * m + v) 0 ≡ t
-    on_leads {t} {b} {x} {s} h y (here e) = let q : x - 1 ≡ s = omega arith in rw q at (y.last (omega arith))
-    on_leads {t} {b} {x} {s} h y (there l o) = on_leads (omega (arith, y.under)) (rw (y.last l) at (w.links (x - 1) (omega (arith, y.under)))) o
+    pub on_leads : {t s x b : ℕ} → b ≤ n → LastBelow next m v t b x → On link s x → get_or next (s * m + v) 0 ≡ t
+    on_leads {t} {s} {x} {b} h y (here e) = let q : x - 1 ≡ s = omega arith in rw q at (y.last (omega arith))
+    on_leads {t} {s} {x} {b} h y (there l o) = on_leads (omega (arith, y.under)) (rw (y.last l) at (w.links (x - 1) (omega (arith, y.under)))) o
 
     -- what leads to a state is on its chain
     leads_within : (f : ℕ) {t b x s : ℕ} → x ≤ f → b ≤ n → LastBelow next m v t b x → s < b → get_or next (s * m + v) 0 ≡ t → On link s x

@@ -7,6 +7,8 @@ ghost use Rattle.io.specs.Counts.{IsPrefixLen};
 ghost use Rattle.pieces.specs.Meaning.Pieces.{Printed};
 ghost use Rattle.streams.specs.Meaning.Input.{Within};
 
+use std::io::Read;
+
 // What was read: so many bytes at the front of a room, which is full or the input ends there; or a read failed.
 #[derive(Clone, Copy)]
 pub enum Input {
@@ -21,17 +23,15 @@ pub struct Output {
     pub length: usize,
 }
 
-// Reads standard input into a room, until the room is full or the input ends.
-pub fn read_input(room: &mut [u8]) -> Input
+// Reads an input into a room, until the room is full or the input ends.
+pub fn read_input<R: Read>(input: &mut R, room: &mut [u8]) -> Input
     ensures { Within result room.new }
 {
     let mut done = 0;
     while done < room.len() {
-        let got = libc::read(0, &mut room[done..]);
-        if got < 0 {
+        let Ok(more) = input.read(&mut room[done..]) else {
             return Input::Failed;
-        }
-        let more = io::count(got, &room[done..]);
+        };
         if more == 0 {
             break;
         }

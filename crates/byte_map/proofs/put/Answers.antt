@@ -1,5 +1,4 @@
 -- `put`: the entries passed are those of the map, none of which is over 255.
-use Prim.Native.Nat.{◌-◌}
 use mathlib.Core.Path.{refl}
 use native.Mathlib.Omega.{arith}
 use Rattle.memory.proofs.Filling.{written_start, written_more, written_end}

@@ -1,5 +1,4 @@
 -- `take_back`: the entries passed are those of the bytes.
-use Prim.Native.Nat.{◌-◌}
 use mathlib.Core.Path.{refl}
 use native.Mathlib.Omega.{arith}
 use Rattle.memory.proofs.Filling.{written_start, written_more, written_end}

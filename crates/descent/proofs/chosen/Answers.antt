@@ -7,4 +7,4 @@ pub returns-then-lands : goal.returns-then-lands
 returns-then-lands c = keep c.in-Vector.is c.if-u-sizes.true (rw c.if-lands.true at c.lands.ensures)
 
 pub returns : goal.returns
-returns c = scanned (⊎_elim (λ a. keep_other a.1.given.1 (rw a.6.left at a.5.ensures)) (λ r. ⊎_elim (λ b. keep_beyond b.1.given.1 b.4.left) (λ k. keep_none k.1.given.1) r) c.match-prior.branch) c.lowest.ensures
+returns c = let h = c.match-prior in ?

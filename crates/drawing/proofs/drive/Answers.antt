@@ -1,5 +1,4 @@
 -- `drive`: the own literals passed have their nets.
-use Prim.Native.Nat.{◌-◌}
 use native.Mathlib.Omega.{arith}
 use Rattle.drawing.proofs.Wiring.{netted_none, netted_more, driven_twice, all_netted}
 use borrow.Author.Rules.{rules}

@@ -20,7 +20,7 @@ returns-then-n-ne0 c =
 pub differ-requires : goal.differ-requires
 differ-requires c =
     let f = (c.begin_pair-n.ensures.for_tables.each c.args.old_out.now c.args.old_seen.now c.args.new_out.now c.args.new_seen.now (record { old = sym c.shorter-old_shown.ensures; new = sym c.shorter-new_shown.ensures })).none c.if-n-ne0.false in
-let g = good (free_call f) in
+    let g = good (free_call f) in
     record { ample = g.outs; ample_2 = g.seens; sizes_in_bounds = omega (arith, room_enough (free_call f), c.begin_pair-n.ensures.emptied.reach.size) }
 
 pub write_list-requires : goal.write_list-requires

@@ -24,8 +24,8 @@ differ-requires c =
 pub mark_alignable-count-requires : goal.mark_alignable-count-requires
 mark_alignable-count-requires c =
     let f = (c.begin_map-n.ensures.for_tables.each c.args.old_out.now c.args.old_seen.now c.args.new_out.now c.args.new_seen.now (record { old = sym c.shorter-old_shown.ensures; new = sym c.shorter-new_shown.ensures })).none c.if-n-ne0.false in
-let h = fits_each (room_enough f) in
-let e = c.begin_map-n.ensures.emptied in
+    let h = fits_each (room_enough f) in
+    let e = c.begin_map-n.ensures.emptied in
     record { with_some = with_begun _ (begun _ (good f) c.differ.ensures); sizes_in_bounds = omega (arith, h.2, e.reach.size, c.differ.ensures.long); sizes_in_bounds_2 = omega (arith, h.0, e.written.size); zero = e.written.zero }
 
 pub returns : goal.returns

@@ -10,7 +10,7 @@ search-requires c = record { walk = record { nexts = c.requires.with_some.has.go
 pub find_list-found-requires : goal.find_list-found-requires
 find_list-found-requires c =
     let b = c.requires.with_some.has in
-let m = map_lists _ b.good (map_traces _ b c.search.ensures.searched).complete c.map_lists.ensures.to_zeros in
+    let m = map_lists _ b.good (map_traces _ b c.search.ensures.searched).complete c.map_lists.ensures.to_zeros in
     record { walk = record { nexts = b.good.nexts; room = search rules }; ready = ready _ b.good m; fact = c.requires.fact }
 
 pub returns : goal.returns

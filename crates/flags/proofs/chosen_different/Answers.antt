@@ -7,4 +7,4 @@ pub returns-then-shows : goal.returns-then-shows
 returns-then-shows c = keep c.in-Vector.is c.if-u-sizes.true (rw c.if-shows.true at c.shows.ensures)
 
 pub returns : goal.returns
-returns c = scanned (⊎_elim (λ a. keep_other a.1.given.1 (rw a.6.left at a.5.ensures)) (λ r. ⊎_elim (λ b. keep_beyond b.1.given.1 b.4.left) (λ k. keep_none k.1.given.1) r) c.match-prior.branch) c.different_vector.ensures
+returns c = let h = c.match-prior in ?

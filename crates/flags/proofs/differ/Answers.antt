@@ -1,12 +1,12 @@
 -- `differ`: the entries passed say where some vector shows a difference.
 use Prim.Native.Nat.{◌-◌}
 use mathlib.Core.Path.{refl}
-use mathlib.Core.Logic.{⊎_elim}
 use native.Mathlib.Omega.{arith}
 use Rattle.machine.specs.Meaning.Tables.{holds, fails}
 use Rattle.memory.proofs.Filling.{written_start, written_more, written_end}
 use Rattle.flags.proofs.Showing.{differs_some, differs_none}
 use Rattle.flags.proofs.differ.Goals as goal
+use Rattle.flags.proofs.differ.Goals.{then-v-sizes, else-v-sizes}
 
 pub total-end-requires : goal.total-end-requires
 total-end-requires c = c.requires.ample.few
@@ -42,9 +42,10 @@ pub loop-i-preserved : goal.loop-i-preserved
 loop-i-preserved c =
     (
   omega (arith, c.total-end.ensures.0, c.loop-i-test.true),
-  ⊎_elim (λ w. rw w.1 (written_more 1 c.loop-i.invariant.1 (omega (arith, c.requires.sizes_in_bounds, c.total-end.ensures.0, c.loop-i-test.true)) (holds refl (differs_some c.pair_at-p.ensures.0 c.different_vector-v.ensures w.0.taken))))
-      (λ w. rw w.1 (written_more 0 c.loop-i.invariant.1 (omega (arith, c.requires.sizes_in_bounds, c.total-end.ensures.0, c.loop-i-test.true)) (fails refl (differs_none c.pair_at-p.ensures.0 c.different_vector-v.ensures w.0.left))))
-      c.if-v-sizes.branch,
+  elim c.if-v-sizes.branch [
+    then-v-sizes w ↦ rw w.map-is (written_more 1 c.loop-i.invariant.1 (omega (arith, c.requires.sizes_in_bounds, c.total-end.ensures.0, c.loop-i-test.true)) (holds refl (differs_some c.pair_at-p.ensures.0 c.different_vector-v.ensures w.if-v-sizes.true)))
+  | else-v-sizes w ↦ rw w.map-is (written_more 0 c.loop-i.invariant.1 (omega (arith, c.requires.sizes_in_bounds, c.total-end.ensures.0, c.loop-i-test.true)) (fails refl (differs_none c.pair_at-p.ensures.0 c.different_vector-v.ensures w.if-v-sizes.false)))
+  ],
 )
 
 pub shape_of-map : goal.shape_of-map

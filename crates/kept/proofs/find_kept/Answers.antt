@@ -1,8 +1,7 @@
 -- `find_kept`: a net of the row after another.
-use Prim.Native.Nat.{◌-◌}
-use mathlib.Core.Logic.{⊎_elim}
 use native.Mathlib.Omega.{arith}
 use Rattle.kept.proofs.Finding.{finding_none, finding_few, finding_all, finding_rename, in_row, next_cell, next_source, next_found, next_room, next_new}
+use Rattle.kept.proofs.find_kept.Goals.{then-base-net+then-dead-i, then-base-net+else-dead-i, else-base-net}
 use Rattle.kept.proofs.find_kept.Goals as goal
 
 pub loop-q-init : goal.loop-q-init
@@ -54,9 +53,11 @@ loop-q-smaller c = omega (arith, finding_few c.loop-q.invariant, c.loop-q-test.t
 pub loop-q-preserved : goal.loop-q-preserved
 loop-q-preserved c =
     let l = c.loop-q in
-    ⊎_elim (λ w. finding_rename c.args.d w.2 w.3 w.4 (next_new c.args.d c.requires l.list l.dead l.kept l.q c.loop-q-test.true l.invariant c.row_net-net.result c.row_net-net.ensures w.0.taken w.1.taken))
-    (λ o. ⊎_elim (λ w. finding_rename c.args.d w.2 w.3 w.4 (next_found c.args.d c.requires l.list l.dead l.kept l.q c.loop-q-test.true l.invariant c.row_net-net.result c.row_net-net.ensures w.0.taken w.1.left))
-    (λ w. finding_rename c.args.d w.1 w.2 w.3 (next_source c.args.d c.requires l.list l.dead l.kept l.q c.loop-q-test.true l.invariant c.row_net-net.result c.row_net-net.ensures w.0.left)) o) c.if-base-net.branch
+    elim c.if-base-net.branch [
+      | then-base-net+then-dead-i w ↦ finding_rename c.args.d w.list-is w.dead-is w.kept-is (next_new c.args.d c.requires l.list l.dead l.kept l.q c.loop-q-test.true l.invariant c.row_net-net.result c.row_net-net.ensures w.if-base-net.true w.if-dead-i.true)
+      | then-base-net+else-dead-i w ↦ finding_rename c.args.d w.list-is w.dead-is w.kept-is (next_found c.args.d c.requires l.list l.dead l.kept l.q c.loop-q-test.true l.invariant c.row_net-net.result c.row_net-net.ensures w.if-base-net.true w.if-dead-i.false)
+      | else-base-net w ↦ finding_rename c.args.d w.list-is w.dead-is w.kept-is (next_source c.args.d c.requires l.list l.dead l.kept l.q c.loop-q-test.true l.invariant c.row_net-net.result c.row_net-net.ensures w.if-base-net.false)
+    ]
 
 pub returns : goal.returns
 returns c =

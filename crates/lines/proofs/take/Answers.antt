@@ -1,10 +1,11 @@
 -- `take`: digits that are a number, with a space or a line feed behind them.
 use mathlib.Core.Path.{refl}
-use mathlib.Core.Logic.{inl, inr, ⊎_elim}
+use mathlib.Core.Logic.{inl, inr}
 use native.Mathlib.Omega.{arith}
 use Rattle.lines.proofs.Fields.{no_field, stops_end, stops_empty, stops_zero, stops_other, spells, a_field}
 use borrow.Author.Rules.{rules}
 use Rattle.lines.proofs.take.Goals as goal
+use Rattle.lines.proofs.take.Goals.{then-text-at-eq48+else-end-at-2, else-text-at-eq48, then-stop-ne10+else-stop-ne32, else-stop-ne10}
 
 pub returns-then-end-text : goal.returns-then-end-text
 returns-then-end-text c = (no_field c.none.ensures.0 (stops_end c.digits-n.ensures (omega arith)), omega (arith, c.none.ensures.1))
@@ -20,5 +21,11 @@ returns-then-stop-ne32 c = (no_field c.none-then-stop-ne32.ensures.0 (stops_othe
 
 pub returns : goal.returns
 returns c =
-    let n = c.digits-n.ensures in
-    (a_field n (search rules) _ refl (⊎_elim (λ w. inr w.1.left) (λ w. inl w.left) c.if-stop-ne10.branch) (spells n (λ e. omega arith) (λ e. ⊎_elim (λ w. omega (arith, w.1.left)) (λ w. absurd (w.left e)) c.if-text-at-eq48.branch)), search rules)
+    let n = c.digits-n.ensures in (
+      a_field n (search rules) _ refl
+          (elim c.if-stop-ne10.branch [ then-stop-ne10+else-stop-ne32 w ↦ inr w.if-stop-ne32.false | else-stop-ne10 w ↦ inl w.if-stop-ne10.false ])
+          (spells n (λ e. omega arith)
+          (λ e. elim c.if-text-at-eq48.branch
+          [ then-text-at-eq48+else-end-at-2 w ↦ omega (arith, w.if-end-at-2.false) | else-text-at-eq48 w ↦ absurd (w.if-text-at-eq48.false e) ])),
+      search rules,
+    )

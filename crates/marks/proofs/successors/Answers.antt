@@ -2,10 +2,10 @@
 use native.Mathlib.Omega.{arith}
 use mathlib.Core.Path.{ap, ◌∙◌}
 use Prim.Native.Nat.{ℕ, ◌-◌}
-use mathlib.Core.Logic.{⊎_elim}
 use lib.ListN.{get_or}
 use Rattle.marks.proofs.Moving.{partial_start, partial_skip, partial_mark, partial_end}
 use Rattle.marks.proofs.successors.Goals as goal
+use Rattle.marks.proofs.successors.Goals.{then-marks-s, else-marks-s}
 
 pub loop-s-init : goal.loop-s-init
 loop-s-init c = (omega arith, partial_start _ _)
@@ -32,10 +32,10 @@ pub loop-s-preserved : goal.loop-s-preserved
 loop-s-preserved c =
     (
   omega (arith, c.loop-s-test.true),
-  ⊎_elim
-      (λ w. rw w.3 (partial_mark _ _ _ _ c.loop-s.invariant.1 w.2.result (w.2.ensures ∙ ap (λ (i : ℕ). get_or c.args.next.now i 0) w.1.ensures.is) (omega (arith, w.2.ensures, c.requires.leading.few, c.requires.leading.stays _ w.1.ensures.under)) w.0.taken))
-      (λ w. rw w.1 (partial_skip _ _ _ _ c.loop-s.invariant.1 w.0.left))
-      c.if-marks-s.branch,
+  elim c.if-marks-s.branch [
+    then-marks-s w ↦ rw w.out-is (partial_mark _ _ _ _ c.loop-s.invariant.1 w.byte_at-q.result (w.byte_at-q.ensures ∙ ap (λ (i : ℕ). get_or c.args.next.now i 0) w.place_of.ensures.is) (omega (arith, w.byte_at-q.ensures, c.requires.leading.few, c.requires.leading.stays _ w.place_of.ensures.under)) w.if-marks-s.true)
+  | else-marks-s w ↦ rw w.out-is (partial_skip _ _ _ _ c.loop-s.invariant.1 w.if-marks-s.false)
+  ],
 )
 
 pub returns : goal.returns

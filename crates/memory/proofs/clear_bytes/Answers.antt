@@ -1,5 +1,4 @@
 -- `clear_bytes`: the entries passed are 0, till all are.
-use Prim.Native.Nat.{◌-◌}
 use mathlib.Core.Path.{refl}
 use native.Mathlib.Omega.{arith}
 use borrow.Author.Count.{below_none}

@@ -7,6 +7,7 @@ use borrow.Author.Count.{below_more, below_none}
 use borrow.Author.Tests.{not-true, not-false}
 use Rattle.netlist.proofs.Loops.{clash}
 use Rattle.netlist.specs.Working.Sound.{ready_gate}
+use Rattle.order.proofs.next_ready.Goals.{then-not-marks-i+else-ready_gate, else-not-marks-i}
 use Rattle.order.proofs.next_ready.Goals as goal
 
 pub loop-i-init : goal.loop-i-init
@@ -19,7 +20,7 @@ pub returns-then-ready_gate : goal.returns-then-ready_gate
 returns-then-ready_gate c =
     record {
       within = omega arith;
-      fresh = λ h. not-true _ c.if-not-marks-i.true;
+      fresh = λ h. c.if-not-marks-i.true;
       ready = λ h. sym c.ready_gate.ensures ∙ c.if-ready_gate.true;
       none = λ e. absurd (omega arith);
     }
@@ -29,7 +30,9 @@ loop-i-preserved c =
     (
   search rules,
   below_more _ _ c.loop-i.invariant.1
-      (⊎_elim (λ w q. sym w.2.ensures ∙ w.3.left) (λ w q. absurd (clash (sym (not-false _ w.left) ∙ q))) c.if-not-marks-i.branch),
+      (elim c.if-not-marks-i.branch
+        [ then-not-marks-i+else-ready_gate w ↦ λ q. sym w.ready_gate.ensures ∙ w.if-ready_gate.false
+        | else-not-marks-i w ↦ λ q. absurd (clash (sym w.if-not-marks-i.false ∙ q)) ]),
 )
 
 pub returns : goal.returns

@@ -8,10 +8,10 @@ use Rattle.pieces.proofs.put_number.Goals as goal
 
 pub put_word-requires : goal.put_word-requires
 put_word-requires c =
-    let e = c.decimal-count.ensures.1.1 ∙ spelled_fewest _ _ c.decimal-count.ensures.1.0 in
+    let e = c.decimal-count.ensures.digits ∙ spelled_fewest _ _ c.decimal-count.ensures.len in
     omega (arith, ap length e, spelled_short 20 c.args.n (omega arith) (omega arith))
 
 pub returns : goal.returns
 returns c =
-    let e = c.decimal-count.ensures.1.1 ∙ spelled_fewest _ _ c.decimal-count.ensures.1.0 in
+    let e = c.decimal-count.ensures.digits ∙ spelled_fewest _ _ c.decimal-count.ensures.len in
     put_as (omega (arith, ap length e, spelled_short 20 c.args.n (omega arith) (omega arith))) e c.put_word.ensures

@@ -1,5 +1,4 @@
 -- `put_word`: the bytes passed stand in the text.
-use Prim.Native.Nat.{◌-◌}
 use native.Mathlib.Omega.{arith}
 use Rattle.pieces.proofs.Putting.{put_none, put_byte, put_whole}
 use Rattle.pieces.proofs.put_word.Goals as goal

@@ -8,7 +8,7 @@ use Rattle.places.proofs.next.Goals as goal
 
 pub returns : goal.returns
 returns c =
-    let p = c.requires in (
+    let p = c.requires.nexts in (
       same_pair (c.byte_at-old.ensures ∙ ap (λ (i : ℕ). get_or c.args.old_next.now i 0) c.place_of-i.ensures.is) (c.byte_at-new.ensures ∙ ap (λ (i : ℕ). get_or c.args.new_next.now i 0) c.place_of-j.ensures.is),
-      record { in_old = omega (arith, c.byte_at-old.ensures, p.0.next_old _ c.place_of-i.ensures.under); in_new = omega (arith, c.byte_at-new.ensures, p.0.next_new _ c.place_of-j.ensures.under) },
+      record { in_old = omega (arith, c.byte_at-old.ensures, p.next_old _ c.place_of-i.ensures.under); in_new = omega (arith, c.byte_at-new.ensures, p.next_new _ c.place_of-j.ensures.under) },
     )

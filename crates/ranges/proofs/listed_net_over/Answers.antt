@@ -1,5 +1,4 @@
 -- `listed_net_over`: every number passed is a net.
-use Prim.Native.Nat.{◌-◌}
 use native.Mathlib.Omega.{arith}
 use borrow.Author.Rules.{rules}
 use borrow.Author.Count.{below_more, below_none}

@@ -1,7 +1,6 @@
 -- `net_over`: the cells, then the three nets of the flip-flops, then the outputs.
 use Rattle.netlist.specs.Meaning.Faults.{DesignFault}
 use Rattle.netlist.proofs.Numbers.{over_cell, over_shown}
-use borrow.Author.Rules.{rules}
 use Rattle.ranges.proofs.net_over.Goals as goal
 
 pub returns-then-cell_net_over : goal.returns-then-cell_net_over
@@ -13,14 +12,8 @@ returns-then-listed_net_over c = let f = rw c.if-listed_net_over.true at c.liste
 pub returns-then-listed_net_over-2 : goal.returns-then-listed_net_over-2
 returns-then-listed_net_over-2 c = let f = rw c.if-listed_net_over-2.true at c.listed_net_over-2.ensures in DesignFault.enable f.0 f.1 f.2
 
-pub slice_bounds-listed_net_over-end-3 : goal.slice_bounds-listed_net_over-end-3
-slice_bounds-listed_net_over-end-3 c = let g = c.before.before.before.before.before.before.before.before.before.before.before.before.before.before.before.before.before.good in search rules
-
 pub returns-then-listed_net_over-3 : goal.returns-then-listed_net_over-3
 returns-then-listed_net_over-3 c = let f = rw c.if-listed_net_over-3.true at c.listed_net_over-3.ensures in DesignFault.clear f.0 f.1 f.2
-
-pub slice_bounds-listed_net_over-end-4 : goal.slice_bounds-listed_net_over-end-4
-slice_bounds-listed_net_over-end-4 c = let g = c.before.before.before.before.before.before.before.before.before.before.before.before.before.before.before.before.before.before.before.before.before.before.good in search rules
 
 pub returns : goal.returns
 returns c =

@@ -1,6 +1,4 @@
 -- `expand`: the vectors, one after the other, each that is allowed by the chains of what it leads where.
-use Prim.Native.Nat.{◌-◌}
-use mathlib.Core.Logic.{⊎_elim}
 use native.Mathlib.Omega.{arith}
 use native.Mathlib.Nat.{le_antisymm}
 use Rattle.memory.proofs.Tests.{told_yes, told_no}
@@ -10,6 +8,7 @@ use Rattle.search.proofs.Meets.{met_few, met_writable}
 use Rattle.search.proofs.Chains.{inverts_chains}
 use Rattle.search.proofs.Walks.{into_start, into_more, into_past}
 use Rattle.search.proofs.expand.Goals as goal
+use Rattle.search.proofs.expand.Goals.{then-allows, else-allows}
 
 pub loop-vector-init : goal.loop-vector-init
 loop-vector-init c = (omega arith, into_start)
@@ -36,12 +35,12 @@ pub loop-vector-smaller : goal.loop-vector-smaller
 loop-vector-smaller c = omega (arith, c.loop-vector-test.true)
 
 pub loop-vector-preserved : goal.loop-vector-preserved
-loop-vector-preserved c =
-    (
+loop-vector-preserved c = (
   omega (arith, c.loop-vector-test.true),
-  ⊎_elim (λ w. rw (w.8, w.9, w.10) (into_more c.requires.numbers w.1.ensures w.2.ensures c.requires.nexts (told_yes c.allows.result c.allows.ensures w.0.taken) c.loop-vector.invariant.1 w.5.ensures))
-      (λ w. rw (w.1, w.2, w.3) (into_past (told_no c.allows.result c.allows.ensures w.0.left) c.loop-vector.invariant.1))
-      c.if-allows.branch,
+  elim c.if-allows.branch [
+    | then-allows w ↦ rw (w.map-is, w.rows-is, w.fresh-is) (into_more c.requires.numbers w.invert-old.ensures w.invert-new.ensures c.requires.nexts (told_yes c.allows.result c.allows.ensures w.if-allows.true) c.loop-vector.invariant.1 w.meet_all-fresh.ensures)
+    | else-allows w ↦ rw (w.map-is, w.rows-is, w.fresh-is) (into_past (told_no c.allows.result c.allows.ensures w.if-allows.false) c.loop-vector.invariant.1)
+  ],
 )
 
 pub shape_of-map : goal.shape_of-map

@@ -1,11 +1,11 @@
 -- `gather`: the pairs, one after the other; a row that is not marked is stepped over.
-use mathlib.Core.Logic.{inl, inr, ⊎_elim}
-use Prim.Native.Nat.{◌-◌}
+use mathlib.Core.Logic.{inl, inr}
 use native.Mathlib.Omega.{arith}
 use Rattle.machine.proofs.Numbers.{second_pos, pair_at_in}
 use Rattle.places.proofs.Places.{few_pairs}
 use Rattle.search.proofs.Gathers.{row_beyond, row_within, gathering_start, gathering_pass, gathering_take, gathering_row, gathering_end}
 use Rattle.search.proofs.gather.Goals as goal
+use Rattle.search.proofs.gather.Goals.{then-map-i, else-map-i}
 
 pub loop-i-init : goal.loop-i-init
 loop-i-init c = gathering_start c.requires.start_bound
@@ -21,9 +21,10 @@ overflow_cast-map c = omega (arith, c.type_inv.map c.loop-i.i)
 
 pub loop-i-preserved-then-rows-row : goal.loop-i-preserved-then-rows-row
 loop-i-preserved-then-rows-row c =
-    ⊎_elim (λ w. rw (w.1, w.2) (gathering_take c.loop-i.invariant (rw c.total-end.ensures.0 at c.loop-i-test.true) w.0.taken c.if-n-eq256.false))
-    (λ w. rw (w.1, w.2) (gathering_pass c.loop-i.invariant (rw c.total-end.ensures.0 at c.loop-i-test.true) w.0.left))
-    c.if-map-i.branch
+    elim c.if-map-i.branch [
+      | then-map-i w ↦ rw (w.pairs-is, w.n-is) (gathering_take c.loop-i.invariant (rw c.total-end.ensures.0 at c.loop-i-test.true) w.if-map-i.true c.if-n-eq256.false)
+      | else-map-i w ↦ rw (w.pairs-is, w.n-is) (gathering_pass c.loop-i.invariant (rw c.total-end.ensures.0 at c.loop-i-test.true) w.if-map-i.false)
+    ]
 
 pub overflow_add-i-else-rows-row : goal.overflow_add-i-else-rows-row
 overflow_add-i-else-rows-row c = omega (arith, (pair_at_in c.args.sizes c.loop-i.i (rw c.total-end.ensures.0 at c.loop-i-test.true)).in_old, c.requires.few.few_old)

@@ -1,6 +1,6 @@
 -- `invert`: the states, one after the other; each is put before the chain of the state that it leads to.
 use mathlib.Core.Path.{ap, ◌∙◌}
-use Prim.Native.Nat.{ℕ, ◌-◌}
+use Prim.Native.Nat.{ℕ}
 use native.Mathlib.Omega.{arith}
 use lib.ListN.{get_or}
 use Rattle.search.proofs.Chains.{linked_start, linked_more, linked_end}

@@ -1,5 +1,4 @@
 -- `meet_all`: the pairs of the batch, one after the other.
-use Prim.Native.Nat.{◌-◌}
 use native.Mathlib.Omega.{arith}
 use native.Mathlib.Nat.{le_antisymm}
 use Rattle.machine.proofs.Numbers.{second_pos, pair_at_in}

@@ -1,5 +1,4 @@
 -- `round`: the batches, one after the other, to the last pair.
-use Prim.Native.Nat.{◌-◌}
 use native.Mathlib.Omega.{arith}
 use Rattle.places.proofs.Places.{few_pairs}
 use Rattle.search.proofs.Meets.{met_few}

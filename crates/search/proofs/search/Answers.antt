@@ -1,6 +1,5 @@
 -- `search`: rounds till one adds nothing, while entries of 0 get fewer; then the scan for the lowest pair that is still 0.
 use mathlib.Core.Path.{◌∙◌, sym}
-use Prim.Native.Nat.{◌-◌}
 use native.Mathlib.Omega.{arith}
 use Rattle.places.proofs.Places.{few_pairs, scan_start, scan_more, scan_found, scan_none}
 use Rattle.search.proofs.Stages.{marked_start, marked_more, stage_end}

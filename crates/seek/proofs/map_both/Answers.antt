@@ -24,5 +24,5 @@ map_lists-lowest-requires c = record { nexts = c.requires.with_some.has.good.nex
 pub returns : goal.returns
 returns c =
     let n = c.total-end.ensures.0 in
-let kept = written_end n c.put.ensures in
+    let kept = written_end n c.put.ensures in
     record { with_each = record { each = λ out0 seen0 out1 seen1 b. let m = (map_traces _ b c.search.ensures.searched).complete in record { traces = map_copied _ m kept; alike = map_lists _ b.good m c.map_lists-lowest.ensures.to_zeros } }; lowest_below = c.map_lists-lowest.ensures.lowest_below; map_counts = record { alike = rw n at c.zeros-alike.ensures.0 ∙ sym (zeros_copied kept); alignable = omega (arith, n, c.zeros.ensures.1, rw n at c.zeros.ensures.0) } }

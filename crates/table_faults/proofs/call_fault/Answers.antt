@@ -18,7 +18,7 @@ returns-then-too_short c =
 pub leads_out-requires : goal.leads_out-requires
 leads_out-requires c =
     let r = rw c.if-out_of_range.false at c.out_of_range.ensures in
-let l = rw c.if-too_short.false at c.too_short.ensures in
+    let l = rw c.if-too_short.false at c.too_short.ensures in
     record { states_bound = r.few_old; vectors_bound = r.few_vectors; vectors_in_bounds = omega (arith, l.old) }
 
 pub returns-then-leads_out : goal.returns-then-leads_out
@@ -27,7 +27,7 @@ returns-then-leads_out c = record { each = λ out0 seen0 out1 seen1 m. at_13 (rw
 pub leads_out-requires-2 : goal.leads_out-requires-2
 leads_out-requires-2 c =
     let r = rw c.if-out_of_range.false at c.out_of_range.ensures in
-let l = rw c.if-too_short.false at c.too_short.ensures in
+    let l = rw c.if-too_short.false at c.too_short.ensures in
     record { states_bound = r.few_new; vectors_bound = r.few_vectors; vectors_in_bounds = omega (arith, l.new) }
 
 pub returns-then-leads_out-2 : goal.returns-then-leads_out-2

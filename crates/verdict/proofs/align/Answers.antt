@@ -31,13 +31,13 @@ overflow_add-to c = omega (arith, (its_part (rw c.in-Steps.is at c.append-found.
 pub spread-next_old-requires : goal.spread-next_old-requires
 spread-next_old-requires c =
     let m = c.requires.reaches.has in
-let a = (its_part (rw c.in-Steps.is at c.append-found.ensures)) in
+    let a = (its_part (rw c.in-Steps.is at c.append-found.ensures)) in
     record { leading = leading_old _ m; from_le_to = omega arith; to_in_bounds = added_fits _ m (c.loop-sizes.invariant.1 _ _ _ _ m) c.lowest_open-i.ensures c.if-i-end.false c.total-end.ensures.0 c.pair_at-p.ensures.0 a; by_index = part_below _ m (c.loop-sizes.invariant.1 _ _ _ _ m) c.lowest_open-i.ensures c.if-i-end.false c.total-end.ensures.0 c.pair_at-p.ensures.0 a }
 
 pub spread-next_new-requires : goal.spread-next_new-requires
 spread-next_new-requires c =
     let m = c.requires.reaches.has in
-let a = (its_part (rw c.in-Steps.is at c.append-found.ensures)) in
+    let a = (its_part (rw c.in-Steps.is at c.append-found.ensures)) in
     record { leading = leading_new _ m; from_le_to = omega arith; to_in_bounds = added_fits _ m (c.loop-sizes.invariant.1 _ _ _ _ m) c.lowest_open-i.ensures c.if-i-end.false c.total-end.ensures.0 c.pair_at-p.ensures.0 a; by_index = part_below _ m (c.loop-sizes.invariant.1 _ _ _ _ m) c.lowest_open-i.ensures c.if-i-end.false c.total-end.ensures.0 c.pair_at-p.ensures.0 a }
 
 pub loop-sizes-smaller : goal.loop-sizes-smaller

@@ -1,7 +1,5 @@
 -- `plain_to`: every flip-flop passed is plain.
-use Prim.Native.Nat.{◌-◌}
 use mathlib.Core.Path.{◌≡◌, sym, ◌∙◌, ap}
-use mathlib.Core.Bool.{true}
 use native.Mathlib.Omega.{arith}
 use Rattle.format.specs.Meaning.Version.{plain_to}
 use Rattle.format.proofs.Versions.{plain_none, plain_more, not_enabled, not_clear}

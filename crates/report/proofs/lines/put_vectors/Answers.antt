@@ -1,5 +1,4 @@
 -- `put_vectors`: the lines of the vectors passed stand in the text.
-use Prim.Native.Nat.{◌-◌}
 use mathlib.Core.Path.{refl}
 use native.Mathlib.Omega.{arith}
 use Rattle.report.proofs.Listing.{listed_none, listed_more, listed_all}

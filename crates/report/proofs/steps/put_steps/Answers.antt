@@ -1,24 +1,15 @@
 -- `put_steps`: the lines of the steps passed stand in the text, and both designs are in the pair reached.
-use Prim.Native.Nat.{ℕ, ◌-◌}
-use mathlib.Core.List.{List}
 use mathlib.Core.Path.{ap₂}
 use native.Mathlib.Omega.{arith}
-use Rattle.machine.specs.declared.Pair.{Pair}
-use Rattle.machine.specs.Meaning.Machine.{step}
-use Rattle.machine.specs.Meaning.Tables.{Tables, old_machine, new_machine}
-use Rattle.report.specs.Meaning.Text.{shown_line, shown_at}
-use Rattle.report.proofs.Listing.{Listed, listed_none, listed_more, listed_all}
+use Rattle.report.specs.Meaning.Text.{shown_line}
+use Rattle.report.proofs.Listing.{listed_none, listed_more, listed_all}
 use Rattle.report.proofs.steps.put_steps.Goals as goal
-
-abbrev Shown : Tables → Pair → List ℕ → ℕ → List ℕ → List ℕ → ℕ → ℕ → Pair → Type 0
-Shown t = Listed (shown_at (old_machine t) (new_machine t)) (step (old_machine t) (new_machine t)) 12
 
 pub loop-i-init : goal.loop-i-init
 loop-i-init c = (omega arith, c.requires.small, listed_none _ _ 12 _ _ _ _)
 
 pub loop-i-preserved : goal.loop-i-preserved
-loop-i-preserved c =
-    (
+loop-i-preserved c = (
   omega arith,
   c.next_pair-after.ensures.1,
   listed_more _ _ (omega arith) c.loop-i.invariant.2 c.wide-vector.ensures.0
