@@ -26,13 +26,13 @@ returns-then-ready_gate c =
     }
 
 pub loop-i-preserved : goal.loop-i-preserved
-loop-i-preserved c =
-    (
+loop-i-preserved c = (
   search rules,
   below_more _ _ c.loop-i.invariant.1
-      (elim c.if-not-marks-i.branch
-        [ then-not-marks-i+else-ready_gate w ↦ λ q. sym w.ready_gate.ensures ∙ w.if-ready_gate.false
-        | else-not-marks-i w ↦ λ q. absurd (clash (sym w.if-not-marks-i.false ∙ q)) ]),
+      (elim c.if-not-marks-i.branch [
+        | then-not-marks-i+else-ready_gate w ↦ λ q. sym w.ready_gate.ensures ∙ w.if-ready_gate.false
+        | else-not-marks-i w ↦ λ q. absurd (clash (sym w.if-not-marks-i.false ∙ q))
+      ]),
 )
 
 pub returns : goal.returns
