@@ -20,7 +20,7 @@ use Rattle.aiger.specs.Meaning.Faults.{LineFault, Part, header, whole, number_of
 
 -- the header line says the same of two texts that have it in common
 pub header_there : {s t : List ℕ} {n : ℕ} → words_at s 0 ≡ words_at t 0 → TextFault s (header n) → TextFault t (header n)
-header_there e (TextFault.no_Header q) = TextFault.no_Header (sym e ∙ q)
+header_there e (TextFault.no_header q) = TextFault.no_header (sym e ∙ q)
 header_there e (TextFault.other_header q) = TextFault.other_header (rw e at q)
 header_there e (TextFault.not_five q) = TextFault.not_five (rw e at q)
 header_there e (TextFault.size_spelling k h l q) = TextFault.size_spelling k h (rw e at l) (rw e at q)
@@ -63,7 +63,7 @@ module _ {s t : List ℕ} (l : SameLines s t) where
 
 module _ (f rest : List ℕ) (spelled : TextFault f (header 17) → ⊥) where
   same_head : words_at (f ++ rest) 0 ≡ words_at f 0
-  same_head = line_stays 0 f rest (λ e. spelled (TextFault.no_Header e))
+  same_head = line_stays 0 f rest (λ e. spelled (TextFault.no_header e))
 
   -- so 3 for a size is decided by the header line alone
   pub front_header : (n : ℕ) → (TextFault f (header n) → TextFault (f ++ rest) (header n)) × (TextFault (f ++ rest) (header n) → TextFault f (header n))

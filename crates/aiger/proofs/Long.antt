@@ -73,7 +73,7 @@ module _ (t : List ℕ) (spelled : TextFault t (header 17) → ⊥) (small : Tex
   word_of_header (suc (suc (suc (suc (suc (suc k)))))) h = absurd (omega (arith, six))
 
   header_short : Short 30 (words_at t 0)
-  header_short = record { ended = λ e. spelled (TextFault.no_Header e); few = omega (arith, six, few_bytes (words_at t 0) word_of_header) }
+  header_short = record { ended = λ e. spelled (TextFault.no_header e); few = omega (arith, six, few_bytes (words_at t 0) word_of_header) }
 
   few_lines : lines_in t ≤ 277
   few_lines = omega (arith, le_of_not_lt (λ l. small (TextFault.inputs l)), le_of_not_lt (λ l. small (TextFault.latches l)), le_of_not_lt (λ l. small (TextFault.outputs l)), le_of_not_lt (λ l. small (TextFault.ands l)))

@@ -1,12 +1,8 @@
 -- The text on two designs, from the promises of the comparison and of the printing.
 use Prim.Native.Nat.{ℕ}
-use mathlib.Core.Path.{◌≡◌, ap₂, ◌∙◌, subst}
-use mathlib.Core.Logic.{inl, inr}
-use mathlib.Core.List.{List, [], ◌∷◌}
-use native.Mathlib.Omega.{arith}
+use mathlib.Core.Path.{◌≡◌, refl, ap₂, ◌∙◌, subst}
+use mathlib.Core.List.{List, []}
 use lib.ListN.{take}
-use types.Run.{OneOf}
-use denote.Enum.Declared.{tag_of}
 use Rattle.memory.specs.Meaning.Refusals.{Free, Keeps}
 use Rattle.memory.specs.Meaning.Tables.{Table}
 use Rattle.netlist.specs.declared.Design.{Design}
@@ -22,7 +18,6 @@ use Rattle.verdict.specs.declared.Verdict.{Verdict}
 use Rattle.verdict.specs.declared.Judged.{Judged}
 use Rattle.verdict.specs.Meaning.Decision.{verdict_reply}
 use Rattle.verdict.specs.Meaning.Decision as D
-use Rattle.verdict.specs.contracts.Verdict as verdict
 use Rattle.compare.specs.Meaning.Designs.{machine_of, sizes_of}
 use Rattle.compare.specs.Meaning.Comparing.{TablesLent, TablesLeft, tables_left_of, CompareFault, Compared, ClearedAll, Compares}
 use Rattle.compare.proofs.Agreement.{holds_gives, old_same, new_same}
@@ -38,16 +33,14 @@ use Rattle.align_report.proofs.Comparing.{same_inputs, found_same, found_apart}
 
 module _ {a b : Design} {allowed : ℕ} {n : TablesLent} {s : Lent} {t : TablesLeft} {e : Left} {text' : List ℕ} {r : ℕ} where
   -- neither Same nor Apart
-  pub prints_refused : {j : Judged} {k : ℕ} → Compares a b [] [] allowed n s t e j → OneOf (1 ∷ 2 ∷ []) (tag_of verdict.the_type j.verdict) → OneOf (0 ∷ 2 ∷ []) (tag_of verdict.the_type j.verdict) → k ≡ number_of (verdict_reply j.verdict)
+  pub prints_refused : {j : Judged} {k : ℕ} → Compares a b [] [] allowed n s t e j → ((m : ℕ) → j.verdict ≡ Verdict.Same m → ⊥) → ((p : Pair) (m : ℕ) → j.verdict ≡ Verdict.Apart p m → ⊥) → k ≡ number_of (verdict_reply j.verdict)
       → Printed (refusal_text Both k) text' r → ReportsDesigns a b allowed n s e.written text' r
   prints_refused {j} {k} c g h i q = go j.verdict c.keeps g h i
     where
-      go : (v : Verdict) → Keeps (CompareFault a b [] [] allowed n s) (Compared a b [] [] allowed t e) (ClearedAll t e) (verdict_reply v) → OneOf (1 ∷ 2 ∷ []) (tag_of verdict.the_type v) → OneOf (0 ∷ 2 ∷ []) (tag_of verdict.the_type v) → k ≡ number_of (verdict_reply v)
+      go : (v : Verdict) → Keeps (CompareFault a b [] [] allowed n s) (Compared a b [] [] allowed t e) (ClearedAll t e) (verdict_reply v) → ((m : ℕ) → v ≡ Verdict.Same m → ⊥) → ((p : Pair) (m : ℕ) → v ≡ Verdict.Apart p m → ⊥) → k ≡ number_of (verdict_reply v)
           → ReportsDesigns a b allowed n s e.written text' r
-      go (Verdict.Same m) w (inl g) h i = absurd (omega arith)
-      go (Verdict.Same m) w (inr g) h i = absurd (omega arith)
-      go (Verdict.Apart p m) w g (inl h) i = absurd (omega arith)
-      go (Verdict.Apart p m) w g (inr h) i = absurd (omega arith)
+      go (Verdict.Same m) w g h i = absurd (g m refl)
+      go (Verdict.Apart p m) w g h i = absurd (h p m refl)
       go (Verdict.Refused k) w g h i = record { answers = AnswersDesigns.refused k w.0 w.1.list (rw (← i) q.is); counts = q.counts; kept = c.tidy.written }
 
   pub prints_same : {j : Judged} {m : ℕ} {f : Facts} → Compares a b [] [] allowed n s t e j → j.verdict ≡ Verdict.Same m → FactsOf a b allowed f

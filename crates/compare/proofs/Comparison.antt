@@ -2,11 +2,9 @@
 use Prim.Native.Nat.{ℕ, ◌≤◌}
 use mathlib.Core.Path.{◌≡◌, ◌∙◌, refl, sym, subst}
 use mathlib.Core.Logic.{◌⊎◌, inl, inr}
-use mathlib.Core.List.{List, [], ◌∷◌}
+use mathlib.Core.List.{List}
 use native.Mathlib.Omega.{arith}
 use lib.ListN.{length}
-use types.Run.{OneOf}
-use denote.Enum.Declared.{tag_of}
 use Rattle.numbers.proofs.Order.{stable}
 use Rattle.memory.specs.Meaning.Orders.{table_order}
 use Rattle.memory.specs.Meaning.Refusals.{Free, Keeps, Reply, answer, refusal}
@@ -35,7 +33,6 @@ use Rattle.verdict.specs.declared.Judged.{Judged}
 use Rattle.verdict.specs.Meaning.Decision.{Decision, verdict_reply, Decided, CountsBeside, ShortList, short}
 use Rattle.verdict.specs.Meaning.Decision as D
 use Rattle.verdict.specs.Meaning.Promise.{JudgeFault}
-use Rattle.verdict.specs.contracts.Verdict as verdict
 use Rattle.compare.specs.Meaning.Designs.{machine_of, sizes_of}
 use Rattle.compare.specs.Meaning.Comparing.{TablesLent, tables_lent_of, TablesLeft, tables_left_of, CompareFault, Compared, ClearedAll, TablesKept, Compares}
 use Rattle.compare.specs.Working.Judging.{ClearedTable, KeptOrCleared, JudgedOrCleared}
@@ -60,11 +57,10 @@ counts_there e (answer x) n k c = record {
 counts_there e (refusal m) n k c = c
 
 -- beside an answer the tables stay
-pub tables_kept : (t : Tables) (v : Verdict) → OneOf (0 ∷ 1 ∷ []) (tag_of verdict.the_type v) → KeptOrCleared t (tables_left_of t.old t.new) (verdict_reply v)
+pub tables_kept : (t : Tables) (v : Verdict) → ((n : ℕ) → v ≡ Verdict.Refused n → ⊥) → KeptOrCleared t (tables_left_of t.old t.new) (verdict_reply v)
 tables_kept t (Verdict.Same n) h = refl
 tables_kept t (Verdict.Apart p n) h = refl
-tables_kept t (Verdict.Refused n) (inl h) = absurd (omega arith)
-tables_kept t (Verdict.Refused n) (inr h) = absurd (omega arith)
+tables_kept t (Verdict.Refused n) h = absurd (h n refl)
 
 -- beside a refusal they are cleared
 pub cleared_table : (t l : Table) → Cleared (length t.next) l.next → Cleared (length t.out) l.out → Cleared (length t.seen) l.seen → ClearedTable t l

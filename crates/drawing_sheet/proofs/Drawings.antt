@@ -60,7 +60,7 @@ drawings = record {
       (Path.more (record { from = lit< tt; to = lit< tt; by = inl refl }) (Path.one {i = 1} (record { from = lit< tt; to = lit< tt; by = inl refl })))
       (Kept.ends (lit< tt) (Taken.shown 0 (lit< tt) refl));
   dead_ring = dead_ring;
-  no_text = by_header "" (TextFault.no_Header refl);
+  no_text = by_header "" (TextFault.no_header refl);
   no_line = by_line _ refl refl tt tt 0 (lit< tt) (LineFault.missing refl);
   six_numbers = by_header "aag 0 0 0 0 0 0\n" (TextFault.not_five (λ e. omega (arith, e)));
   other_word = by_header "aig 0 0 0 0 0\n" (TextFault.other_header not_aag);
@@ -74,7 +74,7 @@ drawings = record {
   two_spaces = by_line _ refl refl tt tt 0 (lit< tt) (LineFault.spelling 1 (lit< tt) refl);
   space_behind = by_line _ refl refl tt tt 0 (lit< tt) (LineFault.spelling 1 (lit< tt) refl);
   carriage_return = by_line _ refl refl tt tt 0 (lit< tt) (LineFault.spelling 0 (lit< tt) refl);
-  no_line_feed = by_header "aag 0 0 0 0 0" (TextFault.no_Header refl);
+  no_line_feed = by_header "aag 0 0 0 0 0" (TextFault.no_header refl);
   header_17_3 = by_header "aag 512 0 0 0\n" (TextFault.not_five (λ e. omega (arith, e)));
   header_3_17 = by_size _ refl refl tt (TextFault.variables (lit< tt));
   whole_17_18 = by_line _ refl refl tt tt 2 (lit< tt) (LineFault.above 0 (lit< tt) (lit< tt));

@@ -35,7 +35,7 @@ use Rattle.aiger.proofs.Determined.{Listed, listed}
 
 -- the header line
 pub no_header_17 : (t : List ℕ) → word_at t 0 0 ≡ aag → length (words_at t 0) ≡ 6 → T (every (λ k. numeral (word_at t 0 (suc k))) 5) → TextFault t (header 17) → ⊥
-no_header_17 t a n s (TextFault.no_Header e) = omega (arith, n, ap length e)
+no_header_17 t a n s (TextFault.no_header e) = omega (arith, n, ap length e)
 no_header_17 t a n s (TextFault.other_header f) = f a
 no_header_17 t a n s (TextFault.not_five f) = f n
 no_header_17 t a n s (TextFault.size_spelling zero h l e) = omega arith

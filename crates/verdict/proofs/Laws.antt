@@ -98,7 +98,7 @@ module _ (t : Tables) (s : Lent) where
   closed f = inside t (good (λ n x. f n (call x)))
 
 pub counts_one : (m0 m1 : Machine) (z : Sizes) {a b c d : ℕ} (x : Reply Decision) → CountsBeside m0 m1 (Ok z) z x a b → CountsBeside m0 m1 (Ok z) z x c d → (a ≡ c) × (b ≡ d)
-counts_one m0 m1 z (answer x) p q = (counts_unique p.alike q.alike, counts_unique p.alignable q.alignable)
+counts_one _ _ _ (answer x) p q = (counts_unique p.alike q.alike, counts_unique p.alignable q.alignable)
 counts_one m0 m1 z (refusal n) p q = (p.0 ∙ sym q.0, p.1 ∙ sym q.1)
 
 -- one verdict has one pair of counts

@@ -9,13 +9,12 @@ use Rattle.engine.proofs.Finds.{first_state, finds_list}
 use borrow.Author.Rules.{rules}
 use Rattle.engine.proofs.list_of.Goals as goal
 
-}
-
 pub returns-then-n-ne0 : goal.returns-then-n-ne0
 returns-then-n-ne0 c =
     record {
-  keeps = (first_state _ _ _ _ _ ((c.begin_pair-n.ensures.for_tables.each c.args.old_out.now c.args.old_seen.now c.args.new_out.now c.args.new_seen.now (record { old = sym c.shorter-old_shown.ensures; new = sym c.shorter-new_shown.ensures })).some c.if-n-ne0.true), c.begin_pair-n.ensures.emptied.written.zero);
-  tidy = tidy_of c.begin_pair-n.ensures.emptied;
+      keeps = (first_state _ _ _ _ _ ((c.begin_pair-n.ensures.for_tables.each c.args.old_out.now c.args.old_seen.now c.args.new_out.now c.args.new_seen.now (record { old = sym c.shorter-old_shown.ensures; new = sym c.shorter-new_shown.ensures })).some c.if-n-ne0.true), c.begin_pair-n.ensures.emptied.written.zero);
+      tidy = tidy_of c.begin_pair-n.ensures.emptied;
+    }
 
 pub differ-requires : goal.differ-requires
 differ-requires c =

@@ -8,13 +8,12 @@ use Rattle.engine.proofs.Marks.{fits_each}
 use borrow.Author.Rules.{rules}
 use Rattle.engine.proofs.map_alike.Goals as goal
 
-}
-
 pub returns-then-n-ne0 : goal.returns-then-n-ne0
 returns-then-n-ne0 c =
     record {
-  keeps = ((c.begin_map-n.ensures.for_tables.each c.args.old_out.now c.args.old_seen.now c.args.new_out.now c.args.new_seen.now (record { old = sym c.shorter-old_shown.ensures; new = sym c.shorter-new_shown.ensures })).some c.if-n-ne0.true, c.begin_map-n.ensures.emptied.written.zero);
-  tidy = tidy_of c.begin_map-n.ensures.emptied;
+      keeps = ((c.begin_map-n.ensures.for_tables.each c.args.old_out.now c.args.old_seen.now c.args.new_out.now c.args.new_seen.now (record { old = sym c.shorter-old_shown.ensures; new = sym c.shorter-new_shown.ensures })).some c.if-n-ne0.true, c.begin_map-n.ensures.emptied.written.zero);
+      tidy = tidy_of c.begin_map-n.ensures.emptied;
+    }
 
 pub differ-requires : goal.differ-requires
 differ-requires c =

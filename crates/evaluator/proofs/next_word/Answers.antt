@@ -1,5 +1,4 @@
 -- `next_word`: Horner's rule, one flip-flop after another.
-use Prim.Native.Nat.{◌-◌}
 use mathlib.Core.Path.{◌≡◌, refl, ◌∙◌, ap}
 use native.Mathlib.Omega.{arith}
 use Rattle.numbers.specs.Meaning.Bits.{horner}

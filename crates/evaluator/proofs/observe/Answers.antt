@@ -4,22 +4,15 @@ use native.Mathlib.Omega.{arith}
 use Rattle.numbers.proofs.Digits.{horner_cong}
 use Rattle.evaluator.proofs.Sweep.{readable}
 use Rattle.evaluator.proofs.Latches.{latchable, next_state_of}
-use borrow.Author.Rules.{rules}
 use Rattle.evaluator.proofs.observe.Goals as goal
 
 pub next_word-next-requires : goal.next_word-next-requires
 next_word-next-requires c = latchable _ _ _ _ c.values-vals.ensures c.requires.evaluable.sound
 
-pub slice_bounds-word-end : goal.slice_bounds-word-end
-slice_bounds-word-end c = let g = c.well_formed.0 in search rules
-
 pub word-out-requires : goal.word-out-requires
 word-out-requires c =
     let p = c.requires.evaluable.sound in
     readable _ _ _ _ _ _ p (omega (arith, p.few_outputs)) p.shows c.values-vals.ensures
-
-pub slice_bounds-word-end-2 : goal.slice_bounds-word-end-2
-slice_bounds-word-end-2 c = let g = c.well_formed.1.1.0 in search rules
 
 pub word-seen-requires : goal.word-seen-requires
 word-seen-requires c = readable _ _ _ _ _ _ c.requires.evaluable.sound c.requires.watched_nets.few c.requires.watched_nets.below c.values-vals.ensures

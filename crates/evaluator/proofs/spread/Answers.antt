@@ -2,7 +2,6 @@
 use Rattle.evaluator.proofs.Spreading.{spread_none, spread_more}
 use borrow.Author.Rules.{rules}
 use native.Mathlib.Omega.{arith}
-use Prim.Native.Nat.{◌-◌}
 use mathlib.Core.Path.{◌≡◌, refl}
 use Rattle.evaluator.proofs.spread.Goals as goal
 

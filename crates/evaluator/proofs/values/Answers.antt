@@ -4,7 +4,7 @@ use Rattle.evaluator.proofs.Sweep.{Swept, swept_none, swept_more, swept_all}
 use borrow.Author.Rules.{rules}
 use native.Mathlib.Omega.{arith}
 use mathlib.Core.Path.{◌≡◌, subst}
-use Prim.Native.Nat.{ℕ, ◌-◌}
+use Prim.Native.Nat.{ℕ}
 use Rattle.evaluator.proofs.values.Goals as goal
 
 pub loop-k-init : goal.loop-k-init

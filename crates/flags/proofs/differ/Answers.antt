@@ -1,5 +1,4 @@
 -- `differ`: the entries passed say where some vector shows a difference.
-use Prim.Native.Nat.{◌-◌}
 use mathlib.Core.Path.{refl}
 use native.Mathlib.Omega.{arith}
 use Rattle.machine.specs.Meaning.Tables.{holds, fails}
@@ -39,12 +38,11 @@ pub loop-i-smaller : goal.loop-i-smaller
 loop-i-smaller c = omega (arith, c.total-end.ensures.0, c.loop-i-test.true)
 
 pub loop-i-preserved : goal.loop-i-preserved
-loop-i-preserved c =
-    (
+loop-i-preserved c = (
   omega (arith, c.total-end.ensures.0, c.loop-i-test.true),
   elim c.if-v-sizes.branch [
-    then-v-sizes w ↦ rw w.map-is (written_more 1 c.loop-i.invariant.1 (omega (arith, c.requires.sizes_in_bounds, c.total-end.ensures.0, c.loop-i-test.true)) (holds refl (differs_some c.pair_at-p.ensures.0 c.different_vector-v.ensures w.if-v-sizes.true)))
-  | else-v-sizes w ↦ rw w.map-is (written_more 0 c.loop-i.invariant.1 (omega (arith, c.requires.sizes_in_bounds, c.total-end.ensures.0, c.loop-i-test.true)) (fails refl (differs_none c.pair_at-p.ensures.0 c.different_vector-v.ensures w.if-v-sizes.false)))
+    | then-v-sizes w ↦ rw w.map-is (written_more 1 c.loop-i.invariant.1 (omega (arith, c.requires.sizes_in_bounds, c.total-end.ensures.0, c.loop-i-test.true)) (holds refl (differs_some c.pair_at-p.ensures.0 c.different_vector-v.ensures w.if-v-sizes.true)))
+    | else-v-sizes w ↦ rw w.map-is (written_more 0 c.loop-i.invariant.1 (omega (arith, c.requires.sizes_in_bounds, c.total-end.ensures.0, c.loop-i-test.true)) (fails refl (differs_none c.pair_at-p.ensures.0 c.different_vector-v.ensures w.if-v-sizes.false)))
   ],
 )
 

@@ -1,5 +1,4 @@
 -- `different_vector`: a scan over the vectors.
-use Prim.Native.Nat.{◌-◌}
 use native.Mathlib.Omega.{arith}
 use Rattle.places.proofs.Places.{scan_start, scan_more, scan_found, scan_none}
 use Rattle.flags.proofs.different_vector.Goals as goal

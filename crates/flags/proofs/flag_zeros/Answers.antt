@@ -1,5 +1,5 @@
 -- `flag_zeros`: the entries passed say where the map held 0, and those ahead are as they were.
-use Prim.Native.Nat.{◌<◌, ◌-◌}
+use Prim.Native.Nat.{◌<◌}
 use mathlib.Core.Path.{refl, sym, ◌∙◌}
 use native.Mathlib.Omega.{arith}
 use lib.ListN.{length}
@@ -18,8 +18,8 @@ loop-i-preserved c =
     let fits : c.loop-i.i < length c.args.entries.now = omega (arith, c.requires, c.loop-i-test.true) in (
       omega arith,
       elim c.if-entries-i-eq0.branch [
-        then-entries-i-eq0 o ↦ rw o.entries-is (written_more 1 w fits (holds refl (sym here ∙ o.if-entries-i-eq0.true)))
-      | else-entries-i-eq0 o ↦ rw o.entries-is (written_more 0 w fits (fails refl (λ e. o.if-entries-i-eq0.false (here ∙ e))))
+        | then-entries-i-eq0 o ↦ rw o.entries-is (written_more 1 w fits (holds refl (sym here ∙ o.if-entries-i-eq0.true)))
+        | else-entries-i-eq0 o ↦ rw o.entries-is (written_more 0 w fits (fails refl (λ e. o.if-entries-i-eq0.false (here ∙ e))))
       ],
     )
 

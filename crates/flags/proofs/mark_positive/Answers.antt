@@ -1,5 +1,4 @@
 -- `mark_positive`: the marks passed say where the map holds more than 0, and are counted.
-use Prim.Native.Nat.{◌-◌}
 use mathlib.Core.Path.{refl, ap, ◌∙◌}
 use native.Mathlib.Omega.{arith}
 use Rattle.machine.specs.Meaning.Tables.{holds, fails}
@@ -16,8 +15,8 @@ pub loop-i-preserved : goal.loop-i-preserved
 loop-i-preserved c =
     let l = c.loop-i.invariant.2.long in
     elim c.if-map-i-eq0.branch [
-      then-map-i-eq0 w ↦ rw (w.mark-is, w.count-is) (omega arith, omega arith, written_more 0 c.loop-i.invariant.2 (omega (arith, c.requires.n_in_bounds_2, c.loop-i-test.true)) (fails refl (λ h. omega (arith, w.if-map-i-eq0.true))), omega (arith, c.loop-i.invariant.3, ones_more c.loop-i.mark c.loop-i.i 0 (omega (arith, l, c.requires.n_in_bounds_2, c.loop-i-test.true))))
-    | else-map-i-eq0 w ↦ rw (w.mark-is, w.count-is) (omega arith, omega arith, written_more 1 c.loop-i.invariant.2 (omega (arith, c.requires.n_in_bounds_2, c.loop-i-test.true)) (holds refl (omega (arith, w.if-map-i-eq0.false))), omega (arith, c.loop-i.invariant.3, ones_more c.loop-i.mark c.loop-i.i 1 (omega (arith, l, c.requires.n_in_bounds_2, c.loop-i-test.true))))
+      | then-map-i-eq0 w ↦ rw (w.mark-is, w.count-is) (omega arith, omega arith, written_more 0 c.loop-i.invariant.2 (omega (arith, c.requires.n_in_bounds_2, c.loop-i-test.true)) (fails refl (λ h. omega (arith, w.if-map-i-eq0.true))), omega (arith, c.loop-i.invariant.3, ones_more c.loop-i.mark c.loop-i.i 0 (omega (arith, l, c.requires.n_in_bounds_2, c.loop-i-test.true))))
+      | else-map-i-eq0 w ↦ rw (w.mark-is, w.count-is) (omega arith, omega arith, written_more 1 c.loop-i.invariant.2 (omega (arith, c.requires.n_in_bounds_2, c.loop-i-test.true)) (holds refl (omega (arith, w.if-map-i-eq0.false))), omega (arith, c.loop-i.invariant.3, ones_more c.loop-i.mark c.loop-i.i 1 (omega (arith, l, c.requires.n_in_bounds_2, c.loop-i-test.true))))
     ]
 
 pub shape_of-mark : goal.shape_of-mark

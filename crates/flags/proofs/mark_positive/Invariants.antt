@@ -2,7 +2,7 @@
 use Prim.Native.Nat.{◌≤◌, ◌<◌, ◌-◌}
 use mathlib.Core.Path.{◌≡◌}
 use lib.ListN.{get_or}
-use Rattle.numbers.specs.Meaning.Count.{count, count_of}
+use Rattle.numbers.specs.Meaning.Count.{count_of}
 use Rattle.flags.specs.Working.{Flagged}
 use Rattle.flags.proofs.mark_positive.Given as goal
 

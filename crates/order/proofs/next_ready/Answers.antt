@@ -1,12 +1,8 @@
-use Prim.Native.Nat.{◌-◌}
 use mathlib.Core.Path.{sym, ◌∙◌}
-use mathlib.Core.Logic.{⊎_elim}
 use native.Mathlib.Omega.{arith}
 use borrow.Author.Rules.{rules}
 use borrow.Author.Count.{below_more, below_none}
-use borrow.Author.Tests.{not-true, not-false}
 use Rattle.netlist.proofs.Loops.{clash}
-use Rattle.netlist.specs.Working.Sound.{ready_gate}
 use Rattle.order.proofs.next_ready.Goals.{then-not-marks-i+else-ready_gate, else-not-marks-i}
 use Rattle.order.proofs.next_ready.Goals as goal
 

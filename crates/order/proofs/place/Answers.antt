@@ -1,5 +1,5 @@
 -- `place`: each turn places a kept cell, or finds a loop.
-use Prim.Native.Nat.{ℕ, ◌-◌}
+use Prim.Native.Nat.{ℕ}
 use mathlib.Core.Path.{◌≡◌, subst}
 use mathlib.Core.Bool.{false}
 use native.Mathlib.Omega.{arith}

@@ -1,5 +1,5 @@
 -- `cell_words`: the cells passed are packed, and the others 0.
-use Prim.Native.Nat.{ℕ, ◌-◌}
+use Prim.Native.Nat.{ℕ}
 use mathlib.Core.Path.{◌≡◌, subst}
 use native.Mathlib.Omega.{arith}
 use Rattle.memory.specs.Working.Filling.{Filled}

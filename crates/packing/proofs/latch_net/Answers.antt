@@ -1,8 +1,7 @@
 -- `latch_net`: by the nets that the code names; from 2 on it is the clear net.
 use native.Mathlib.Omega.{arith}
-use Rattle.numbers.proofs.Order.{past}
 use Rattle.packing.proofs.Tails.{clear_from}
 use Rattle.packing.proofs.latch_net.Goals as goal
 
 pub returns-in_default : goal.returns-in_default
-returns-in_default c = clear_from _ _ _ c.args.j (past (past (omega arith) c.in_default.rest.0.1) c.in_default.rest.1)
+returns-in_default c = clear_from _ _ _ c.args.j (omega arith)

@@ -1,7 +1,6 @@
 -- `tail_nets`: the nets passed are the design's, and the others 0.
-use Prim.Native.Nat.{ℕ, ◌+◌, ◌*◌, ◌-◌}
+use Prim.Native.Nat.{ℕ, ◌+◌, ◌*◌}
 use mathlib.Core.Path.{◌≡◌, ◌∙◌, subst}
-use mathlib.Core.Logic.{⊎_elim}
 use native.Mathlib.Omega.{arith}
 use borrow.Author.Tests.{lt-ltb, le-ltb}
 use Rattle.memory.specs.Working.Filling.{Filled}
@@ -11,6 +10,7 @@ use Rattle.packing.specs.Working.{tail_net}
 use Rattle.packing.proofs.Tails.{few_tails, latch_of}
 use borrow.Author.Rules.{rules}
 use Rattle.packing.proofs.tail_nets.Goals as goal
+use Rattle.packing.proofs.tail_nets.Goals.{then-t-behind, else-t-behind}
 
 pub overflow_mul-behind : goal.overflow_mul-behind
 overflow_mul-behind c = omega (arith, few_tails c.args.each c.args.d c.requires.0 c.requires.2)
@@ -44,27 +44,23 @@ bounds-d-t c = omega (arith, c.requires.0.few_outputs)
 
 pub offset_bounds-nets-t : goal.offset_bounds-nets-t
 offset_bounds-nets-t c =
-    let s = c.before.before.before in
-    omega (arith, few_tails s.args.each s.args.d s.requires.0 s.requires.2)
+    omega (arith, few_tails c.args.each c.args.d c.requires.0 c.requires.2)
 
 pub bounds-nets-t : goal.bounds-nets-t
 bounds-nets-t c =
-    let s = c.before.before.before in
-    omega (arith, few_tails s.args.each s.args.d s.requires.0 s.requires.2)
+    omega (arith, few_tails c.args.each c.args.d c.requires.0 c.requires.2)
 
 pub overflow_add-t : goal.overflow_add-t
 overflow_add-t c =
-    let s = c.before.before.before in
-    omega (arith, few_tails s.args.each s.args.d s.requires.0 s.requires.2)
+    omega (arith, few_tails c.args.each c.args.d c.requires.0 c.requires.2)
 
 pub loop-t-preserved : goal.loop-t-preserved
 loop-t-preserved c =
-    let s = c.before.before.before in
-    let d = s.args.d in
-    let w = s.args.each in
+    let d = c.args.d in
+    let w = c.args.each in
     let l = c.loop-t in
-    let e : c.if-t-behind.net ≡ tail_net w d l.t = ⊎_elim (λ x. simp (lt-ltb _ _ x.0.taken) (x.5 ∙ x.4.ensures)) (λ x. simp (le-ltb _ _ x.0.left) x.2) c.if-t-behind.branch in
-    (search rules, filled_more (tail_net w d) 0 most_tails l.t l.nets c.if-t-behind.net (omega (arith, few_tails w d s.requires.0 s.requires.2)) e l.invariant.1)
+    let e : c.if-t-behind.net ≡ tail_net w d l.t = elim c.if-t-behind.branch [ then-t-behind x ↦ simp (lt-ltb _ _ x.if-t-behind.true) (x.net-is ∙ x.latch_net-net.ensures) | else-t-behind x ↦ simp (le-ltb _ _ x.if-t-behind.false) x.net-is ] in
+    (search rules, filled_more (tail_net w d) 0 most_tails l.t l.nets c.if-t-behind.net (omega (arith, few_tails w d c.requires.0 c.requires.2)) e l.invariant.1)
 
 pub returns : goal.returns
 returns c =

@@ -1,6 +1,5 @@
 -- `leads_out`: a scan over the entries in use.
 use native.Mathlib.Omega.{arith}
-use Prim.Native.Nat.{◌-◌}
 use native.Mathlib.Nat.{mul-le-mul}
 use borrow.Author.Count.{below_more}
 use Rattle.machine.specs.Meaning.Faults.{leads}

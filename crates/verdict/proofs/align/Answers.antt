@@ -23,10 +23,10 @@ append-found-requires c =
     record { walk = record { nexts = m.good.nexts; room = m.room }; ready = ready _ m.good m.alike; fact = c.pair_at-p.ensures.1; p_nonzero = m.some _ c.pair_at-p.ensures.1; len_in_bounds = (c.loop-sizes.invariant.1 _ _ _ _ m).under }
 
 pub returns-in_default : goal.returns-in_default
-returns-in_default c = record { each = λ o0 s0 o1 s1 m. no_room _ m (c.loop-sizes.invariant.1 o0 s0 o1 s1 m) c.lowest_open-i.ensures c.if-i-end.false c.total-end.ensures.0 c.pair_at-p.ensures.0 c.requires.zero (rw c.in_default.is at c.append-found.ensures) c.append-found.auto.1.1.1.1.1.0 c.clear_bytes.ensures }
+returns-in_default c = record { each = λ o0 s0 o1 s1 m. no_room _ m (c.loop-sizes.invariant.1 o0 s0 o1 s1 m) c.lowest_open-i.ensures c.if-i-end.false c.total-end.ensures.0 c.pair_at-p.ensures.0 c.requires.zero (rw c.in_default.is at c.append-found.ensures) c.append-found.auto.list c.clear_bytes.ensures }
 
 pub overflow_add-to : goal.overflow_add-to
-overflow_add-to c = omega (arith, (its_part (rw c.in-Steps.is at c.append-found.ensures)).fits, c.loop-sizes.invariant.0, c.well_formed.1.1.1.1.0.0)
+overflow_add-to c = omega (arith, (its_part (rw c.in-Steps.is at c.append-found.ensures)).fits, c.loop-sizes.invariant.0)
 
 pub spread-next_old-requires : goal.spread-next_old-requires
 spread-next_old-requires c =

@@ -7,4 +7,4 @@ pub find_list-requires : goal.find_list-requires
 find_list-requires c = record { walk = c.requires.walk; ready = c.requires.ready; fact = c.requires.fact }
 
 pub returns : goal.returns
-returns c = appended _ _ _ c.requires.len_in_bounds c.find_list.auto.1.1.1.1.1.1.0 (λ e. omega (arith, c.requires.p_nonzero)) _ (rw c.prior_at-prior.ensures at c.find_list.ensures)
+returns c = appended _ _ _ c.requires.len_in_bounds c.find_list.auto.list (λ e. omega (arith, c.requires.p_nonzero)) _ (rw c.prior_at-prior.ensures at c.find_list.ensures)

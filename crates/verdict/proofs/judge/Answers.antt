@@ -16,23 +16,21 @@ differ-requires c =
 pub map_both-tally-requires : goal.map_both-tally-requires
 map_both-tally-requires c =
     let e = enough (((rw c.shorter-room.ensures at c.vectors_fault-n.ensures).each c.args.old_out.now c.args.old_seen.now c.args.new_out.now c.args.new_seen.now (record { old = sym c.shorter-old_shown.ensures; new = sym c.shorter-new_shown.ensures })).none c.if-n-ne0.false) refl c.differ.ensures.long in
-    let conj = (with_begun _ (begun _ e.0 c.differ.ensures), e.1) in
-    record { with_some = conj.0; sizes_in_bounds = conj.1.0; sizes_in_bounds_2 = conj.1.1 }
+    record { with_some = with_begun _ (begun _ e.0 c.differ.ensures); sizes_in_bounds = e.1.0; sizes_in_bounds_2 = e.1.1 }
 
 pub decide-verdict-requires : goal.decide-verdict-requires
 decide-verdict-requires c =
     let none = ((rw c.shorter-room.ensures at c.vectors_fault-n.ensures).each c.args.old_out.now c.args.old_seen.now c.args.new_out.now c.args.new_seen.now (record { old = sym c.shorter-old_shown.ensures; new = sym c.shorter-new_shown.ensures })).none c.if-n-ne0.false in
-    record { mapped = mapped none c.map_both-tally.auto.1.1.1.0 (c.map_both-tally.auto.1.1.1.1.0 ∙ c.differ.ensures.long) (c.map_both-tally.ensures.with_each.each _ _ _ _ (begun _ (good none) c.differ.ensures)); lowest_below = c.map_both-tally.ensures.lowest_below; zero = c.clear_bytes.ensures.zero }
+    record { mapped = mapped none c.map_both-tally.auto.depth (c.map_both-tally.auto.reach ∙ c.differ.ensures.long) (c.map_both-tally.ensures.with_each.each _ _ _ _ (begun _ (good none) c.differ.ensures)); lowest_below = c.map_both-tally.ensures.lowest_below; zero = c.clear_bytes.ensures.zero }
 
 pub shape_of-reach : goal.shape_of-reach
-shape_of-reach c = c.clear_scratch-2.ensures.cleared_2.size ∙ c.decide-verdict.auto.1.1.1.1.1.1.1.1.1.0 ∙ c.map_both-tally.auto.1.1.1.1.0 ∙ c.differ.ensures.long
+shape_of-reach c = c.clear_scratch-2.ensures.cleared_2.size ∙ c.decide-verdict.auto.reach ∙ c.map_both-tally.auto.reach ∙ c.differ.ensures.long
 
 pub shape_of-list : goal.shape_of-list
-shape_of-list c = c.decide-verdict.auto.1.1.1.1.1.1.1.1.1.1.0 ∙ c.clear_bytes.ensures.size
+shape_of-list c = c.decide-verdict.auto.list ∙ c.clear_bytes.ensures.size
 
 pub returns : goal.returns
 returns c =
     let none = ((rw c.shorter-room.ensures at c.vectors_fault-n.ensures).each c.args.old_out.now c.args.old_seen.now c.args.new_out.now c.args.new_seen.now (record { old = sym c.shorter-old_shown.ensures; new = sym c.shorter-new_shown.ensures })).none c.if-n-ne0.false in
     let maps = c.map_both-tally.ensures in
-    let kept = c.map_both-tally.auto.1.1.1 in
-    judged _ _ none c.decide-verdict.result c.decide-verdict.ensures (maps.0.each _ _ _ _ (begun _ (good none) c.differ.ensures)) maps.1.1 c.with_counts.ensures kept.0 (kept.1.0 ∙ c.differ.ensures.long) c.clear_scratch-2.ensures.cleared c.clear_scratch-2.ensures.cleared_2 c.decide-verdict.auto.1.1.1.1.1.1.1.1.1.0 c.clear_bytes.ensures.size c.decide-verdict.auto.1.1.1.1.1.1.1.1.1.1.0
+    judged _ _ none c.decide-verdict.result c.decide-verdict.ensures (maps.with_each.each _ _ _ _ (begun _ (good none) c.differ.ensures)) maps.map_counts c.with_counts.ensures c.map_both-tally.auto.depth (c.map_both-tally.auto.reach ∙ c.differ.ensures.long) c.clear_scratch-2.ensures.cleared c.clear_scratch-2.ensures.cleared_2 c.decide-verdict.auto.reach c.clear_bytes.ensures.size c.decide-verdict.auto.list

@@ -2,10 +2,10 @@
 use native.Mathlib.Omega.{arith}
 use mathlib.Core.Path.{sym, ◌∙◌}
 use Prim.Native.Nat.{◌-◌}
-use mathlib.Core.Logic.{⊎_elim}
 use mathlib.Core.Bool.{false≢true}
 use Rattle.places.proofs.Places.{scan_start, scan_more, scan_found, scan_none}
 use Rattle.verdict.proofs.lowest_open.Goals as goal
+use Rattle.verdict.proofs.lowest_open.Goals.{then-old_marks-old+then-new_marks-new+else-map-i-ne1, then-old_marks-old+else-new_marks-new, else-old_marks-old}
 
 pub total-end-requires : goal.total-end-requires
 total-end-requires c = c.requires.few
@@ -38,7 +38,12 @@ pub loop-i-smaller : goal.loop-i-smaller
 loop-i-smaller c = omega (arith, c.total-end.ensures.0, c.loop-i-test.true)
 
 pub loop-i-preserved : goal.loop-i-preserved
-loop-i-preserved c = scan_more c.loop-i.invariant (omega (arith, c.total-end.ensures.0, c.loop-i-test.true)) (λ o. ⊎_elim (λ w. o.unlike w.3.left) (λ r. ⊎_elim (λ w. false≢true (sym (rw c.pair_at-p.ensures.0 at w.1.left) ∙ o.mark1)) (λ w. false≢true (sym (rw c.pair_at-p.ensures.0 at w.left) ∙ o.mark0)) r) c.if-old_marks-old.branch)
+loop-i-preserved c = scan_more c.loop-i.invariant (omega (arith, c.total-end.ensures.0, c.loop-i-test.true)) (λ o.
+    elim c.if-old_marks-old.branch [
+      then-old_marks-old+then-new_marks-new+else-map-i-ne1 w ↦ o.unlike w.if-map-i-ne1.false
+    | then-old_marks-old+else-new_marks-new w ↦ false≢true (sym (rw c.pair_at-p.ensures.0 at w.if-new_marks-new.false) ∙ o.mark1)
+    | else-old_marks-old w ↦ false≢true (sym (rw c.pair_at-p.ensures.0 at w.if-old_marks-old.false) ∙ o.mark0)
+    ])
 
 pub returns : goal.returns
 returns c = scan_none c.loop-i.invariant (omega (arith, c.total-end.ensures.0, c.loop-i-test.false))

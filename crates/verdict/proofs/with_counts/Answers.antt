@@ -6,4 +6,4 @@ pub returns-in-Refused : goal.returns-in-Refused
 returns-in-Refused c = rw c.in-Refused.is c.without_counts.ensures
 
 pub returns : goal.returns
-returns c = answered _ _ c.args.verdict c.in_default.keys2
+returns c = answered _ _ c.args.verdict c.in_default.not-Refused

@@ -6,6 +6,7 @@ use Rattle.aiger.specs.Meaning.Faults.{ThirdFits}
 use Rattle.aiger.specs.Working.Bodies.{Unfit}
 use Rattle.aiger.proofs.Bodies.{fits_own}
 use Rattle.aiger.proofs.body.latch_fits.Goals as goal
+use Rattle.aiger.proofs.body.latch_fits.Goals.{then-r-gt1+else-r, else-r-gt1}
 
 pub returns-then-r-lt2 : goal.returns-then-r-lt2
 returns-then-r-lt2 c = Unfit.count (λ h. omega (arith, h.0))
@@ -19,5 +20,7 @@ returns-then-r c = Unfit.initial (λ h. ⊎_elim (λ l. omega arith) c.if-r.true
 pub returns : goal.returns
 returns c =
     let r = c.args.r in
-    let i : ThirdFits Latch r.third r.first = ⊎_elim (λ w. inr w.2.left) (λ w. inl (omega (arith, w.left))) c.if-r-gt1.branch in
+    let i : ThirdFits Latch r.third r.first =
+      elim c.if-r-gt1.branch [ then-r-gt1+else-r w ↦ inr w.if-r.false | else-r-gt1 w ↦ inl (omega (arith, w.if-r-gt1.false)) ]
+    in
     fits_own c.is_own.result Latch r.count r.first r.third (omega arith, omega arith) i (λ o. o) (λ o. o) c.is_own.ensures

@@ -5,38 +5,38 @@ use mathlib.Core.Bool.{true}
 use mathlib.Core.List.{List, [], ◌∷◌}
 use native.Mathlib.Omega.{arith}
 use Rattle.lines.specs.Meaning.Spelling.{numeral}
-use Rattle.memory.proofs.Tests.{told_yes, told_no, told_left, told_taken}
+use Rattle.memory.proofs.Tests.{told_yes, told_no}
 use Rattle.lines.proofs.Rows.{led_ends, all_more}
 use Rattle.aiger.proofs.Headers.{unmarked, headed_none, headed_more, headed_short, headed_long, header_right, sized, large, turned_17, turned_3, passes}
 use Rattle.aiger.proofs.header.read_header.Goals as goal
 
 pub returns-then-not-marked : goal.returns-then-not-marked
-returns-then-not-marked c = turned_17 c.turned_away.ensures (unmarked c.args.text.now (told_taken c.marked.result c.marked.ensures c.if-not-marked.true))
+returns-then-not-marked c = turned_17 c.turned_away.ensures (unmarked c.args.text.now (told_no c.marked.result c.marked.ensures c.if-not-marked.true))
 
 pub take-m-requires : goal.take-m-requires
-take-m-requires c = (told_left c.marked.result c.marked.ensures c.if-not-marked.false).long
+take-m-requires c = (told_yes c.marked.result c.marked.ensures c.if-not-marked.false).long
 
 pub returns-then-m-ne32 : goal.returns-then-m-ne32
 returns-then-m-ne32 c =
-    let h = headed_none c.args.text.now (told_left c.marked.result c.marked.ensures c.if-not-marked.false) in
+    let h = headed_none c.args.text.now (told_yes c.marked.result c.marked.ensures c.if-not-marked.false) in
     turned_17 c.turned_away-then-m-ne32.ensures (headed_short h c.take-m.ensures.0 (omega arith) c.if-m-ne32.true)
 
 pub returns-then-i-ne32 : goal.returns-then-i-ne32
 returns-then-i-ne32 c =
-    let h = headed_none c.args.text.now (told_left c.marked.result c.marked.ensures c.if-not-marked.false) in
+    let h = headed_none c.args.text.now (told_yes c.marked.result c.marked.ensures c.if-not-marked.false) in
     let m = headed_more h c.take-m.ensures.0 c.if-m-ne32.false in
     turned_17 c.turned_away-then-i-ne32.ensures (headed_short m.1 c.take-i.ensures.0 (omega arith) c.if-i-ne32.true)
 
 pub returns-then-l-ne32 : goal.returns-then-l-ne32
 returns-then-l-ne32 c =
-    let h = headed_none c.args.text.now (told_left c.marked.result c.marked.ensures c.if-not-marked.false) in
+    let h = headed_none c.args.text.now (told_yes c.marked.result c.marked.ensures c.if-not-marked.false) in
     let m = headed_more h c.take-m.ensures.0 c.if-m-ne32.false in
     let i = headed_more m.1 c.take-i.ensures.0 c.if-i-ne32.false in
     turned_17 c.turned_away-then-l-ne32.ensures (headed_short i.1 c.take-l.ensures.0 (omega arith) c.if-l-ne32.true)
 
 pub returns-then-o-ne32 : goal.returns-then-o-ne32
 returns-then-o-ne32 c =
-    let h = headed_none c.args.text.now (told_left c.marked.result c.marked.ensures c.if-not-marked.false) in
+    let h = headed_none c.args.text.now (told_yes c.marked.result c.marked.ensures c.if-not-marked.false) in
     let m = headed_more h c.take-m.ensures.0 c.if-m-ne32.false in
     let i = headed_more m.1 c.take-i.ensures.0 c.if-i-ne32.false in
     let l = headed_more i.1 c.take-l.ensures.0 c.if-l-ne32.false in
@@ -44,7 +44,7 @@ returns-then-o-ne32 c =
 
 pub returns-then-a-ne10 : goal.returns-then-a-ne10
 returns-then-a-ne10 c =
-    let h = headed_none c.args.text.now (told_left c.marked.result c.marked.ensures c.if-not-marked.false) in
+    let h = headed_none c.args.text.now (told_yes c.marked.result c.marked.ensures c.if-not-marked.false) in
     let m = headed_more h c.take-m.ensures.0 c.if-m-ne32.false in
     let i = headed_more m.1 c.take-i.ensures.0 c.if-i-ne32.false in
     let l = headed_more i.1 c.take-l.ensures.0 c.if-l-ne32.false in
@@ -53,7 +53,7 @@ returns-then-a-ne10 c =
 
 pub returns-then-over_limit : goal.returns-then-over_limit
 returns-then-over_limit c =
-    let h = headed_none c.args.text.now (told_left c.marked.result c.marked.ensures c.if-not-marked.false) in
+    let h = headed_none c.args.text.now (told_yes c.marked.result c.marked.ensures c.if-not-marked.false) in
     let m = headed_more h c.take-m.ensures.0 c.if-m-ne32.false in
     let i = headed_more m.1 c.take-i.ensures.0 c.if-i-ne32.false in
     let l = headed_more i.1 c.take-l.ensures.0 c.if-l-ne32.false in
@@ -67,7 +67,7 @@ returns-then-over_limit c =
 
 pub returns : goal.returns
 returns c =
-    let h = headed_none c.args.text.now (told_left c.marked.result c.marked.ensures c.if-not-marked.false) in
+    let h = headed_none c.args.text.now (told_yes c.marked.result c.marked.ensures c.if-not-marked.false) in
     let m = headed_more h c.take-m.ensures.0 c.if-m-ne32.false in
     let i = headed_more m.1 c.take-i.ensures.0 c.if-i-ne32.false in
     let l = headed_more i.1 c.take-l.ensures.0 c.if-l-ne32.false in

@@ -7,7 +7,7 @@ use lib.Pow.{pow_pos}
 use borrow.Author.Rules.{rules}
 use native.Mathlib.Omega.{arith}
 use mathlib.Core.Path.{◌≡◌, subst}
-use Prim.Native.Nat.{ℕ, ◌-◌}
+use Prim.Native.Nat.{ℕ}
 use Rattle.simulator.proofs.tables.fill.Goals as goal
 
 pub power-vectors-requires : goal.power-vectors-requires
