@@ -47,7 +47,7 @@ module _ {t : List ℕ} {r : Reading} {n : ℕ} (p : ReadsDrawing t r) (e : n �
     pub image_written : n ≡ 0 → HoldsWhole r.design out k → Converts t out 1 k
     image_written z h =
         let q = as_read (accepted z) p in
-        record { outputs = Outputs.answered (λ u. q.keeps.0 (header 17) (TextFault.no_Header u.unended)) (AnswersText.image q.keeps.0 (rw q.keeps.1 at h.image)); counts = h.counts }
+        record { outputs = Outputs.answered (λ u. q.keeps.0 (header 17) (TextFault.no_header u.unended)) (AnswersText.image q.keeps.0 (rw q.keeps.1 at h.image)); counts = h.counts }
 
     pub refusal_written : (n ≡ 0 → ⊥) → (most_text < length t → words_at t 0 ≡ [] → ⊥) → Printed (last_field "REFUSED " n) out k → Converts t out 1 k
     refusal_written z decided h =

@@ -99,7 +99,7 @@ module _ (t : Tables) (s : Lent) where
 
 pub counts_one : (m0 m1 : Machine) (z : Sizes) {a b c d : ℕ} (x : Reply Decision) → CountsBeside m0 m1 (Ok z) z x a b → CountsBeside m0 m1 (Ok z) z x c d → (a ≡ c) × (b ≡ d)
 counts_one _ _ _ (answer x) p q = (counts_unique p.alike q.alike, counts_unique p.alignable q.alignable)
-counts_one m0 m1 z (refusal n) p q = (p.0 ∙ sym q.0, p.1 ∙ sym q.1)
+counts_one _ _ _ (refusal n) p q = (p.0 ∙ sym q.0, p.1 ∙ sym q.1)
 
 -- one verdict has one pair of counts
 pub judged_one : (m0 m1 : Machine) (z : Sizes) {q r : Judged} → q.verdict ≡ r.verdict → CountsBeside m0 m1 (Ok z) z (verdict_reply q.verdict) q.alike q.alignable

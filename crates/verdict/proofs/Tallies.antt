@@ -2,7 +2,6 @@
 use mathlib.Core.Path.{◌≡◌, refl}
 use mathlib.Core.List.{List}
 use Prim.Native.Nat.{ℕ}
-use native.Mathlib.Omega.{arith}
 use Rattle.machine.specs.Meaning.Tables.{Tables, Ok, old_machine, new_machine}
 use Rattle.machine.proofs.Counting.{counts_zeros, counts_others}
 use Rattle.seek.specs.Working.Steps.{MapCounts}

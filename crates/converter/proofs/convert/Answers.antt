@@ -1,11 +1,11 @@
 -- `convert`: the message of a front that leaves the answer open, the line of a refusal, or the image of an accepted text.
 use mathlib.Core.Path.{sym}
-use mathlib.Core.Logic.{⊎_elim}
 use native.Mathlib.Omega.{arith}
 use lib.Seq.{length-take-le}
 use Rattle.memory.proofs.Tests.{told_yes, told_no}
 use Rattle.pieces.proofs.Putting.{put_printed}
 use Rattle.converter.proofs.Outputs.{left_open, read_accepted, image_written, refusal_written}
+use Rattle.converter.proofs.convert.Goals.{then-n-gt-MOST_BYTES+else-unended, else-n-gt-MOST_BYTES}
 use Rattle.converter.proofs.convert.Goals as goal
 
 pub slice_bounds-unended-end : goal.slice_bounds-unended-end
@@ -22,7 +22,11 @@ slice_bounds-read-end c = sym (length-take-le c.args.n c.args.room.now c.require
 pub returns-then-number-ne0 : goal.returns-then-number-ne0
 returns-then-number-ne0 c =
     let size = length-take-le c.args.n c.args.room.now c.requires.1 in
-    refusal_written c.read-reading.ensures c.refused_by-number.ensures (λ z. omega (arith, c.if-number-ne0.true, z)) (λ h e. ⊎_elim (λ w. told_no _ w.2.ensures w.3.left e) (λ w. omega (arith, size, w.left, h)) c.if-n-gt-MOST_BYTES.branch)
+    refusal_written c.read-reading.ensures c.refused_by-number.ensures (λ z. omega (arith, c.if-number-ne0.true, z)) (λ h e.
+        elim c.if-n-gt-MOST_BYTES.branch [
+          then-n-gt-MOST_BYTES+else-unended w ↦ told_no _ w.unended.ensures w.if-unended.false e
+        | else-n-gt-MOST_BYTES w ↦ absurd (omega (arith, size, h, w.if-n-gt-MOST_BYTES.false))
+        ])
     (rw c.wide.ensures.0 at (put_printed c.put_last_field-length.ensures (omega arith)))
 
 pub put_image-length-requires : goal.put_image-length-requires

@@ -10,8 +10,8 @@ pub returns : goal.returns
 returns c =
     scanned
     (elim c.match-prior.branch [
-      in-Vector+then-u-sizes+else-lands w ↦ keep_other w.in-Vector.is (rw w.if-lands.false at w.lands.ensures)
-    | in-Vector+else-u-sizes w ↦ keep_beyond w.in-Vector.is w.if-u-sizes.false
-    | in_default w ↦ keep_none w.in_default.is
+      | in-Vector+then-u-sizes+else-lands w ↦ keep_other w.in-Vector.is (rw w.if-lands.false at w.lands.ensures)
+      | in-Vector+else-u-sizes w ↦ keep_beyond w.in-Vector.is w.if-u-sizes.false
+      | in_default w ↦ keep_none w.in_default.is
     ])
     c.lowest.ensures

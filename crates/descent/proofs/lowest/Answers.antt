@@ -1,5 +1,4 @@
 -- `lowest`: a scan over the vectors.
-use Prim.Native.Nat.{◌-◌}
 use native.Mathlib.Omega.{arith}
 use Rattle.places.proofs.Places.{scan_start, scan_more, scan_found, scan_none}
 use Rattle.descent.proofs.lowest.Goals as goal

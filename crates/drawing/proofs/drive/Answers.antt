@@ -11,7 +11,7 @@ pub returns-then-nets-x-ne0 : goal.returns-then-nets-x-ne0
 returns-then-nets-x-ne0 c = driven_twice c.loop-p.invariant.1 c.own_literal-x.result c.own_literal-x.ensures.0 c.loop-p-test.true c.if-nets-x-ne0.true
 
 pub loop-p-preserved : goal.loop-p-preserved
-loop-p-preserved c = (search rules, netted_more c.loop-p.invariant.1 c.own_literal-x.result c.own_literal-x.ensures.0 c.own_literal-x.ensures.1 c.if-nets-x-ne0.false)
+loop-p-preserved c = (search rules, netted_more c.loop-p.invariant.1 c.own_literal-x.result c.own_literal-x.ensures.0 c.own_literal-x.ensures.1 (omega arith))
 
 pub returns : goal.returns
 returns c = all_netted c.loop-p.invariant.1 (omega arith)

@@ -5,7 +5,7 @@ use Rattle.drawing.specs.Working.Places.{Driven}
 use Rattle.drawing.proofs.Wiring.{not_driven, is_driven, looked_none, looked_even, looked_odd, looks_wrong, looks_right}
 use borrow.Author.Rules.{rules}
 use Rattle.drawing.proofs.look.Goals as goal
-use Rattle.drawing.proofs.look.Goals.{then-nets-x-eq0+else-x-gt1, else-nets-x-eq0, then-x-eq1, else-x-eq1}
+use Rattle.drawing.proofs.look.Goals.{then-x-eq1, else-x-eq1}
 
 pub loop-r-init : goal.loop-r-init
 loop-r-init c = (search rules, looked_none c.args.d)
@@ -17,10 +17,7 @@ pub loop-r-preserved : goal.loop-r-preserved
 loop-r-preserved c =
     let v = c.loop-r.invariant.1 in
     let x = c.read_literal-x.result in
-    let driven : 2 ≤ x → Driven c.args.d x =
-    λ h. elim c.if-nets-x-eq0.branch
-    [ then-nets-x-eq0+else-x-gt1 w ↦ absurd (omega (arith, w.if-x-gt1.false)) | else-nets-x-eq0 w ↦ is_driven c.requires.1 x w.if-nets-x-eq0.false ]
-    in (
+    let driven : 2 ≤ x → Driven c.args.d x = λ h. is_driven c.requires.1 x (λ e. omega (arith, h, e)) in (
       search rules,
       elim c.if-x-eq1.branch [
         | then-x-eq1 w ↦ (rw w.marks-is (looked_odd v x c.read_literal-x.ensures.0 driven c.read_literal-x.ensures.1 w.if-x-eq1.true))

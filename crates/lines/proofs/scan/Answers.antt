@@ -61,6 +61,6 @@ returns c =
     let a = rowed_none c.args.most (drop c.args.at c.args.text.now) in
     let b = rowed_more a c.take-a.ensures.0 c.requires.1 (omega (arith, c.if-a-most.false)) c.if-a-ne32.false in
     let d = rowed_more b.1 c.take-b.ensures.0 c.requires.1 (omega (arith, c.if-b-most.false)) c.if-b-ne32.false in
-    let e = rowed_ends d.1 c.take-c.ensures.0 c.requires.1 (omega (arith, c.if-c-most.false)) c.if-c-ne10.false in
+    let e = rowed_ends d.1 c.take-c.ensures.0 c.requires.1 (omega (arith, c.if-c-most.false)) (omega arith) in
     let q = c.row_of-2.ensures in
     rw (q.0, q.1, q.2, q.3, q.4) (row_three b.0 d.0 e.0 e.1 e.2 b.2 d.2 e.3 e.4, c.take-c.ensures.1)

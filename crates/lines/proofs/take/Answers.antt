@@ -1,6 +1,5 @@
 -- `take`: digits that are a number, with a space or a line feed behind them.
 use mathlib.Core.Path.{refl}
-use mathlib.Core.Logic.{inl, inr}
 use native.Mathlib.Omega.{arith}
 use Rattle.lines.proofs.Fields.{no_field, stops_end, stops_empty, stops_zero, stops_other, spells, a_field}
 use borrow.Author.Rules.{rules}
@@ -17,15 +16,9 @@ pub returns-then-end-at-2 : goal.returns-then-end-at-2
 returns-then-end-at-2 c = (no_field c.none-then-end-at-2.ensures.0 (stops_zero c.digits-n.ensures (λ e. omega arith) c.if-text-at-eq48.true (omega arith)), omega (arith, c.none-then-end-at-2.ensures.1))
 
 pub returns-then-stop-ne32 : goal.returns-then-stop-ne32
-returns-then-stop-ne32 c = (no_field c.none-then-stop-ne32.ensures.0 (stops_other c.digits-n.ensures (search rules) c.if-stop-ne10.true c.if-stop-ne32.true), omega (arith, c.none-then-stop-ne32.ensures.1))
+returns-then-stop-ne32 c = (no_field c.none-then-stop-ne32.ensures.0 (stops_other c.digits-n.ensures (search rules) (λ e. omega (arith, e)) c.if-stop-ne32.true), omega (arith, c.none-then-stop-ne32.ensures.1))
 
 pub returns : goal.returns
 returns c =
-    let n = c.digits-n.ensures in (
-      a_field n (search rules) _ refl
-          (elim c.if-stop-ne10.branch [ then-stop-ne10+else-stop-ne32 w ↦ inr w.if-stop-ne32.false | else-stop-ne10 w ↦ inl w.if-stop-ne10.false ])
-          (spells n (λ e. omega arith)
-          (λ e. elim c.if-text-at-eq48.branch
-          [ then-text-at-eq48+else-end-at-2 w ↦ omega (arith, w.if-end-at-2.false) | else-text-at-eq48 w ↦ absurd (w.if-text-at-eq48.false e) ])),
-      search rules,
-    )
+    let n = c.digits-n.ensures in
+    (a_field n (search rules) _ refl (grind arith) (spells n (λ e. omega arith) (λ e. omega (arith, e))), search rules)

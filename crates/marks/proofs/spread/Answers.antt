@@ -1,7 +1,6 @@
 -- `spread`: the successors under one vector after the other.
 use native.Mathlib.Omega.{arith}
 use mathlib.Core.Path.{◌≡◌}
-use Prim.Native.Nat.{◌-◌}
 use Rattle.marks.proofs.Moving.{spread_start, spread_more}
 use Rattle.marks.proofs.spread.Goals as goal
 

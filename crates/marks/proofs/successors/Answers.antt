@@ -1,7 +1,7 @@
 -- `successors`: each marked state marks the state to which it leads.
 use native.Mathlib.Omega.{arith}
 use mathlib.Core.Path.{ap, ◌∙◌}
-use Prim.Native.Nat.{ℕ, ◌-◌}
+use Prim.Native.Nat.{ℕ}
 use lib.ListN.{get_or}
 use Rattle.marks.proofs.Moving.{partial_start, partial_skip, partial_mark, partial_end}
 use Rattle.marks.proofs.successors.Goals as goal
@@ -29,12 +29,11 @@ pub loop-s-smaller : goal.loop-s-smaller
 loop-s-smaller c = omega (arith, c.loop-s-test.true)
 
 pub loop-s-preserved : goal.loop-s-preserved
-loop-s-preserved c =
-    (
+loop-s-preserved c = (
   omega (arith, c.loop-s-test.true),
   elim c.if-marks-s.branch [
-    then-marks-s w ↦ rw w.out-is (partial_mark _ _ _ _ c.loop-s.invariant.1 w.byte_at-q.result (w.byte_at-q.ensures ∙ ap (λ (i : ℕ). get_or c.args.next.now i 0) w.place_of.ensures.is) (omega (arith, w.byte_at-q.ensures, c.requires.leading.few, c.requires.leading.stays _ w.place_of.ensures.under)) w.if-marks-s.true)
-  | else-marks-s w ↦ rw w.out-is (partial_skip _ _ _ _ c.loop-s.invariant.1 w.if-marks-s.false)
+    | then-marks-s w ↦ rw w.out-is (partial_mark _ _ _ _ c.loop-s.invariant.1 w.byte_at-q.result (w.byte_at-q.ensures ∙ ap (λ (i : ℕ). get_or c.args.next.now i 0) w.place_of.ensures.is) (omega (arith, w.byte_at-q.ensures, c.requires.leading.few, c.requires.leading.stays _ w.place_of.ensures.under)) w.if-marks-s.true)
+    | else-marks-s w ↦ rw w.out-is (partial_skip _ _ _ _ c.loop-s.invariant.1 w.if-marks-s.false)
   ],
 )
 

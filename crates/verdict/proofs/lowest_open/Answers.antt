@@ -1,7 +1,6 @@
 -- `lowest_open`: a scan over the numbers of the pairs.
 use native.Mathlib.Omega.{arith}
 use mathlib.Core.Path.{sym, ◌∙◌}
-use Prim.Native.Nat.{◌-◌}
 use mathlib.Core.Bool.{false≢true}
 use Rattle.places.proofs.Places.{scan_start, scan_more, scan_found, scan_none}
 use Rattle.verdict.proofs.lowest_open.Goals as goal
@@ -40,9 +39,9 @@ loop-i-smaller c = omega (arith, c.total-end.ensures.0, c.loop-i-test.true)
 pub loop-i-preserved : goal.loop-i-preserved
 loop-i-preserved c = scan_more c.loop-i.invariant (omega (arith, c.total-end.ensures.0, c.loop-i-test.true)) (λ o.
     elim c.if-old_marks-old.branch [
-      then-old_marks-old+then-new_marks-new+else-map-i-ne1 w ↦ o.unlike w.if-map-i-ne1.false
-    | then-old_marks-old+else-new_marks-new w ↦ false≢true (sym (rw c.pair_at-p.ensures.0 at w.if-new_marks-new.false) ∙ o.mark1)
-    | else-old_marks-old w ↦ false≢true (sym (rw c.pair_at-p.ensures.0 at w.if-old_marks-old.false) ∙ o.mark0)
+      | then-old_marks-old+then-new_marks-new+else-map-i-ne1 w ↦ o.unlike w.if-map-i-ne1.false
+      | then-old_marks-old+else-new_marks-new w ↦ false≢true (sym (rw c.pair_at-p.ensures.0 at w.if-new_marks-new.false) ∙ o.mark1)
+      | else-old_marks-old w ↦ false≢true (sym (rw c.pair_at-p.ensures.0 at w.if-old_marks-old.false) ∙ o.mark0)
     ])
 
 pub returns : goal.returns

@@ -21,7 +21,5 @@ returns-in-6 c = rw c.in-6.is
 
 pub returns-in_default : goal.returns-in_default
 returns-in_default c =
-    let r = c.in_default.rest in
-    let h = past (past (past (past (past c.requires.0 r.0.0.0.0.1) r.0.0.0.1) r.0.0.1) r.0.1) r.1 in
-    let e : c.args.kind ≡ 7 = omega (arith, h, c.requires.1) in
+    let e : c.args.kind ≡ 7 = omega (arith, c.requires.1) in
     rw e
