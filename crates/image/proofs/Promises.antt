@@ -3,7 +3,7 @@ use Prim.Native.Nat.{ℕ}
 use mathlib.Core.Path.{◌≡◌}
 use mathlib.Core.List.{List}
 use native.Mathlib.Omega.{arith}
-use Rattle.memory.specs.Meaning.Refusals.{FirstOrNone, answer}
+use Rattle.memory.specs.Meaning.Refusals.{FirstOrNone}
 use Rattle.memory.proofs.Refusals.{first_early}
 use Rattle.image.specs.declared.Answer.TheVariants.{Refused}
 use Rattle.image.specs.declared.Reading.{Reading}

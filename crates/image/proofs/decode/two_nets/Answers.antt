@@ -1,7 +1,6 @@
 -- `two_nets`: by the kinds that the code names; the last is 7.
 use mathlib.Core.Path.{◌≡◌}
 use native.Mathlib.Omega.{arith}
-use Rattle.numbers.proofs.Order.{past}
 use Rattle.image.proofs.decode.two_nets.Goals as goal
 
 pub returns-in-2 : goal.returns-in-2

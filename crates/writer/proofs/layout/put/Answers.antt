@@ -1,5 +1,5 @@
 -- `put`: the bytes passed are the image's, and the others 0.
-use Prim.Native.Nat.{ℕ, ◌-◌}
+use Prim.Native.Nat.{ℕ}
 use mathlib.Core.Path.{◌≡◌, ◌∙◌, subst₂}
 use native.Mathlib.Omega.{arith}
 use lib.ListN.{length, get_or}
