@@ -5,7 +5,7 @@ use mathlib.Core.List.{List}
 use lib.ListN.{take}
 use Rattle.memory.specs.Meaning.Refusals.{Free}
 use Rattle.netlist.specs.declared.Design.{Design}
-use Rattle.netlist.specs.Meaning.Faults.{Accepted, SameDesign}
+use Rattle.netlist.specs.Meaning.Faults.{SameDesign}
 use Rattle.image.specs.declared.Answer.TheVariants as Answer·variants
 use Rattle.image.specs.declared.Reading.{Reading}
 use Rattle.format.specs.Meaning.Format.{bytes_of, decoded, Encodes}

@@ -23,10 +23,10 @@ pub returns-then-number-ne0 : goal.returns-then-number-ne0
 returns-then-number-ne0 c =
     let size = length-take-le c.args.n c.args.room.now c.requires.1 in
     refusal_written c.read-reading.ensures c.refused_by-number.ensures (λ z. omega (arith, c.if-number-ne0.true, z)) (λ h e.
-        elim c.if-n-gt-MOST_BYTES.branch [
-          then-n-gt-MOST_BYTES+else-unended w ↦ told_no _ w.unended.ensures w.if-unended.false e
-        | else-n-gt-MOST_BYTES w ↦ absurd (omega (arith, size, h, w.if-n-gt-MOST_BYTES.false))
-        ])
+    elim c.if-n-gt-MOST_BYTES.branch [
+      | then-n-gt-MOST_BYTES+else-unended w ↦ told_no _ w.unended.ensures w.if-unended.false e
+      | else-n-gt-MOST_BYTES w ↦ absurd (omega (arith, size, h, w.if-n-gt-MOST_BYTES.false))
+    ])
     (rw c.wide.ensures.0 at (put_printed c.put_last_field-length.ensures (omega arith)))
 
 pub put_image-length-requires : goal.put_image-length-requires

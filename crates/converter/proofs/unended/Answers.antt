@@ -1,5 +1,4 @@
 -- `unended`: the bytes passed are no line feed.
-use Prim.Native.Nat.{◌-◌}
 use native.Mathlib.Omega.{arith}
 use Rattle.converter.proofs.Lines.{goes_none, goes_more, goes_to_feed, goes_to_end}
 use borrow.Author.Rules.{rules}

@@ -16,14 +16,14 @@ returns-then-d-w-gt-MOST_CELLS c =
     draws_3 (c.wires_of-w.ensures.right d) (omega (arith, (c.wires_of-w.ensures.wired d).count, c.if-d-w-gt-MOST_CELLS.true)) c.refusal-then-d-w-gt-MOST_CELLS.ensures.0 c.refusal-then-d-w-gt-MOST_CELLS.ensures.1
 
 pub assembled-design-requires : goal.assembled-design-requires
-assembled-design-requires c = (c.requires, c.wires_of-w.ensures.wired (not-false _ c.if-not-w.false), omega (arith, c.if-d-w-gt-MOST_CELLS.false))
+assembled-design-requires c = (c.requires, c.wires_of-w.ensures.wired (not-false _ c.if-not-w.false), omega arith)
 
 pub returns-then-fault_of-ne0 : goal.returns-then-fault_of-ne0
 returns-then-fault_of-ne0 c =
     let d = not-false _ c.if-not-w.false in
-    draws_9 c.requires (c.wires_of-w.ensures.right d) (omega (arith, (c.wires_of-w.ensures.wired d).count, c.if-d-w-gt-MOST_CELLS.false)) c.assembled-design.ensures c.fault_of.ensures c.if-fault_of-ne0.true c.refusal-then-fault_of-ne0.ensures.0 c.refusal-then-fault_of-ne0.ensures.1
+    draws_9 c.requires (c.wires_of-w.ensures.right d) (omega (arith, (c.wires_of-w.ensures.wired d).count)) c.assembled-design.ensures c.fault_of.ensures c.if-fault_of-ne0.true c.refusal-then-fault_of-ne0.ensures.0 c.refusal-then-fault_of-ne0.ensures.1
 
 pub returns : goal.returns
 returns c =
     let d = not-false _ c.if-not-w.false in
-    draws_none c.requires (c.wires_of-w.ensures.right d) (omega (arith, (c.wires_of-w.ensures.wired d).count, c.if-d-w-gt-MOST_CELLS.false)) c.assembled-design.ensures c.fault_of.ensures c.if-fault_of-ne0.false
+    draws_none c.requires (c.wires_of-w.ensures.right d) (omega (arith, (c.wires_of-w.ensures.wired d).count)) c.assembled-design.ensures c.fault_of.ensures (omega arith)

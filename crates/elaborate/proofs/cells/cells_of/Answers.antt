@@ -1,5 +1,5 @@
 -- `cells_of`: the cells passed are the drawing's, and the others blank.
-use Prim.Native.Nat.{◌+◌, ◌-◌}
+use Prim.Native.Nat.{◌+◌}
 use mathlib.Core.Path.{◌≡◌, ap}
 use native.Mathlib.Omega.{arith}
 use Rattle.memory.proofs.Filling.{filled_none, filled_more}
