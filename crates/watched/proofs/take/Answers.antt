@@ -14,7 +14,7 @@ pub returns-then-listed_net_over : goal.returns-then-listed_net_over
 returns-then-listed_net_over c = let f = rw c.if-listed_net_over.true at c.listed_net_over.ensures in watch_5 _ _ _ f.0 f.1 f.2
 
 pub returns-then-count-gt-MOST_WATCHED : goal.returns-then-count-gt-MOST_WATCHED
-returns-then-count-gt-MOST_WATCHED c = watch_21 _ _ (rw c.if-listed_net_over.false at c.listed_net_over.ensures) _ c.if-count-gt-MOST_WATCHED.true
+returns-then-count-gt-MOST_WATCHED c = watch_21 _ _ (rw c.if-listed_net_over.false at c.listed_net_over.ensures) _ (omega arith)
 
 pub loop-k-init : goal.loop-k-init
 loop-k-init c = (search rules, filled_none _ _ _)

@@ -1,12 +1,11 @@
 -- `latch_fits`: how many numbers, the initial value, and the own literal.
-use mathlib.Core.Logic.{inl, inr, ⊎_elim}
+use mathlib.Core.Logic.{⊎_elim}
 use native.Mathlib.Omega.{arith}
 use Rattle.aiger.specs.declared.body.Line.TheVariants.{Latch}
 use Rattle.aiger.specs.Meaning.Faults.{ThirdFits}
 use Rattle.aiger.specs.Working.Bodies.{Unfit}
 use Rattle.aiger.proofs.Bodies.{fits_own}
 use Rattle.aiger.proofs.body.latch_fits.Goals as goal
-use Rattle.aiger.proofs.body.latch_fits.Goals.{then-r-gt1+else-r, else-r-gt1}
 
 pub returns-then-r-lt2 : goal.returns-then-r-lt2
 returns-then-r-lt2 c = Unfit.count (λ h. omega (arith, h.0))
@@ -20,7 +19,5 @@ returns-then-r c = Unfit.initial (λ h. ⊎_elim (λ l. omega arith) c.if-r.true
 pub returns : goal.returns
 returns c =
     let r = c.args.r in
-    let i : ThirdFits Latch r.third r.first =
-      elim c.if-r-gt1.branch [ then-r-gt1+else-r w ↦ inr w.if-r.false | else-r-gt1 w ↦ inl (omega (arith, w.if-r-gt1.false)) ]
-    in
+    let i : ThirdFits Latch r.third r.first = grind arith in
     fits_own c.is_own.result Latch r.count r.first r.third (omega arith, omega arith) i (λ o. o) (λ o. o) c.is_own.ensures

@@ -1,5 +1,4 @@
 -- `read_body`: the lines passed are spelled, and their numbers stored.
-use Prim.Native.Nat.{◌-◌}
 use mathlib.Core.Path.{refl, ap}
 use mathlib.Core.Bool.{not}
 use Rattle.aiger.proofs.Bodies.{filling_none, wrong_line, next_line, all_lines, body_wrong}
