@@ -1,5 +1,5 @@
 -- `cells_of`: a turn a cell.
-use Rattle.std.proofs.Common.{◌-◌, length-set, rules}
+use Rattle.std.proofs.Common.{length-set, rules}
 use Rattle.trial.proofs.designs.cells_of.Goals as goal
 
 pub loop-i-preserved : goal.loop-i-preserved

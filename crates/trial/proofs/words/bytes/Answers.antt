@@ -1,5 +1,5 @@
 -- `bytes`: a turn an entry that is read or written.
-use Rattle.std.proofs.Common.{◌-◌, arith, length-set, rules}
+use Rattle.std.proofs.Common.{arith, length-set, rules}
 use Rattle.trial.proofs.words.bytes.Goals as goal
 
 pub loop-left-smaller : goal.loop-left-smaller

@@ -1,9 +1,0 @@
--- `chain`: one cell after another.
-use Rattle.std.proofs.Common.{◌-◌}
-use Rattle.brute_designs.proofs.draw.chain.Given as goal
-
-abbrev pub invariant-loop-i : goal.invariant-loop-i
-invariant-loop-i l = Unit {0}
-
-abbrev pub decreases-loop-i : goal.decreases-loop-i
-decreases-loop-i l = l.i-end - l.i

@@ -1,9 +1,0 @@
--- `empty`: one enable net after another.
-use Rattle.std.proofs.Common.{◌-◌}
-use Rattle.brute_designs.proofs.plain.empty.Given as goal
-
-abbrev pub invariant-loop-k : goal.invariant-loop-k
-invariant-loop-k l = Unit {0}
-
-abbrev pub decreases-loop-k : goal.decreases-loop-k
-decreases-loop-k l = 7 - l.k

@@ -1,9 +1,0 @@
--- `bytes`: one byte after another.
-use Rattle.std.proofs.Common.{◌-◌}
-use Rattle.brute_designs.proofs.show.bytes.Given as goal
-
-abbrev pub invariant-loop-i : goal.invariant-loop-i
-invariant-loop-i l = Unit {0}
-
-abbrev pub decreases-loop-i : goal.decreases-loop-i
-decreases-loop-i l = l.n - l.i

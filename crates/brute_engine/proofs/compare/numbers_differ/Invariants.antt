@@ -1,9 +1,0 @@
--- `numbers_differ`: a turn a number.
-use Rattle.std.proofs.Common.{◌-◌, ◌≤◌}
-use Rattle.brute_engine.proofs.compare.numbers_differ.Given as goal
-
-abbrev pub invariant-loop-i : goal.invariant-loop-i
-invariant-loop-i l = l.i ≤ 20
-
-abbrev pub decreases-loop-i : goal.decreases-loop-i
-decreases-loop-i l = 20 - l.i

@@ -1,9 +1,0 @@
--- `shortest`: a turn a number of steps.
-use Rattle.std.proofs.Common.{◌-◌, ◌≤◌}
-use Rattle.brute_engine.proofs.lists.shortest.Given as goal
-
-abbrev pub invariant-loop-steps : goal.invariant-loop-steps
-invariant-loop-steps l = l.steps ≤ 16
-
-abbrev pub decreases-loop-steps : goal.decreases-loop-steps
-decreases-loop-steps l = 16 - l.steps

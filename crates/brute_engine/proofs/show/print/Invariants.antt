@@ -1,9 +1,0 @@
--- `print`: a turn a byte.
-use Rattle.std.proofs.Common.{◌-◌, ◌≤◌}
-use Rattle.brute_engine.proofs.show.print.Given as goal
-
-abbrev pub invariant-loop-i : goal.invariant-loop-i
-invariant-loop-i l = l.i ≤ l.i-end
-
-abbrev pub decreases-loop-i : goal.decreases-loop-i
-decreases-loop-i l = l.i-end - l.i

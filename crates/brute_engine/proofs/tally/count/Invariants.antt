@@ -1,9 +1,0 @@
--- `count`: a turn a number.
-use Rattle.std.proofs.Common.{◌-◌, ◌≤◌}
-use Rattle.brute_engine.proofs.tally.count.Given as goal
-
-abbrev pub invariant-loop-i : goal.invariant-loop-i
-invariant-loop-i l = l.i ≤ 20
-
-abbrev pub decreases-loop-i : goal.decreases-loop-i
-decreases-loop-i l = 20 - l.i
