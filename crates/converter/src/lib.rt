@@ -72,7 +72,6 @@ fn convert(room: &[u8], n: usize, out: &mut [u8]) -> Output
 }
 
 // Whether no line feed ends the first line.
-#[tactic(auto, using(crate::proofs::Lines::goes_to_feed, crate::proofs::Lines::goes_more))]
 fn unended(text: &[u8]) -> bool
     ensures { Tells result (words_at text.now 0 ≡ []) }
 {

@@ -19,7 +19,7 @@ use Rattle.netlist.proofs.Live.{Live, live_first, live_second}
 use Rattle.netlist.proofs.Steady.{steady, none_steady, steady_step, steady_lt, all_steady, settled_source, settled_cell, settled_past}
 use Rattle.netlist.proofs.Numbers.{sound_of, loop_free}
 
--- `is_live_lem` by net
+-- `is_live` by net
 module _ (d : Design) where
   live_at : (i : ℕ) (t : Bool) → is_kept d i ≡ t → is_live d (cell_base d + i) ≡ t
   live_at i t e =

@@ -23,7 +23,7 @@ pub record OutputsAllowed (b text' : List ℕ) (k r : ℕ) : Type 0 where
   pub prints : Prints (Panel.Named (allowed_in b)) (images_in b) text' r
   pub stream : k ≡ 1
 
--- so that longer input is noticed and not cut: what is printed of so many bytes is what would be printed of all (law whole-allowed)
+-- so that longer input is noticed and not cut: what is printed of so many bytes is what would be printed of all (law whole_allowed)
 abbrev pub most_read_allowed : ℕ
 most_read_allowed = 8 + most_read
 

@@ -83,8 +83,8 @@ own_tables = tables_lent_of own_table own_table
 abbrev pub own_slices : ℕ → Lent
 own_slices n = lent_of 16384 16384 n
 
--- "The list slice has 32,768 bytes"; so `REFUSED BOTH n` is 10 or 16 alone under `Panel.Every` (law refused-both), and 10, 16 or 20 under
--- any panel (law refused-named); and 16 is of the list of Same alone (law long-list)
+-- "The list slice has 32,768 bytes"; so `REFUSED BOTH n` is 10 or 16 alone under `Panel.Every` (law refused_both), and 10, 16 or 20 under
+-- any panel (law refused_named); and 16 is of the list of Same alone (law long_list)
 pub record Prints (o : Panel) (b text' : List ℕ) (r : ℕ) : Type 0 where
   pub list : List ℕ
   pub reports : Reports o b own_tables (own_slices 32768) list text' r
@@ -94,7 +94,7 @@ pub record Outputs (b text' : List ℕ) (k r : ℕ) : Type 0 where
   pub prints : Prints Panel.Every b text' r
   pub stream : k ≡ 1
 
--- so that longer input is noticed and not cut: what is printed of so many bytes is what would be printed of all (law whole-input)
+-- so that longer input is noticed and not cut: what is printed of so many bytes is what would be printed of all (law whole_input)
 abbrev pub most_read : ℕ
 most_read = 2 * most_bytes + 1
 

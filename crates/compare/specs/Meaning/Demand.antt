@@ -4,7 +4,7 @@
 --   Right a b w0 w1 allowed l r         the verdict r on a and b, with the list slice l at exit, is right
 --   EnoughTables a b n                  table slices of lengths n are long enough
 --   Enough a b w0 w1 allowed s          so are scratch and list slice of lengths s
---   Supposed a b w0 w1 allowed n s      what demand 3 supposes: exactly a comparison that is not refused (laws no-fault and not-refused)
+--   Supposed a b w0 w1 allowed n s      what demand 3 supposes: exactly a comparison that is not refused (laws no_fault and not_refused)
 --   Demand3 a b w0 w1 allowed n s e r   where that is so, r is right
 use Rattle.std.specs.Prelude.{ℕ, ◌<◌, ◌≤◌, List, length, take}
 use Rattle.memory.specs.Meaning.Tables.{shortest_of}
@@ -39,7 +39,7 @@ pub record EnoughTables (a b : Design) (n : TablesLent) : Type 0 where
 
 -- scratch of one byte a pair and of one 16-bit number a pair (§8: "12 and demand 3 are measured on the new lengths"), and a list slice no
 -- shorter than the answer; §2: "demand 3 measures the list slice on what is picked now". Of lists with VerdictList there is exactly one
--- (laws written-exists and written-unique of machine)
+-- (laws written_exists and written_unique of machine)
 pub record Enough (a b : Design) (w0 w1 : List ℕ) (allowed : ℕ) (s : Lent) : Type 0 where
   pub scratch : pairs (sizes_of a b allowed) ≤ scratch_of s
   pub list : (l : List ℕ) → VerdictList (machine_of a w0) (machine_of b w1) (Ok (sizes_of a b allowed)) (sizes_of a b allowed) l → length l ≤ s.written

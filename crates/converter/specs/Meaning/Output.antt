@@ -32,7 +32,7 @@ pub data AnswersText (t o : List ℕ) : Type 0 where
   refused : (n : ℕ) → FirstNumber (TextFault t) order number_of n → o ≡ last_field "REFUSED " n → AnswersText t o
 
 -- "text after the AND lines is skipped", and a line that is no fault has few bytes; so the answer to a front, 17 too, is that to every text
--- which begins with it (law front-whole), unless its first line goes on, which may come to 17 or to 3
+-- which begins with it (law front_whole), unless its first line goes on, which may come to 17 or to 3
 pub record Undecided (t : List ℕ) : Type 0 where
   pub longer : most_text < length t
   pub unended : words_at t 0 ≡ []

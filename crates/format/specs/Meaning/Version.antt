@@ -1,5 +1,5 @@
 -- Which version the image of a design has.
---   plain_at_lem e c k   the enable nets e and the clear nets c have 1 and 0 for flip-flop k
+--   plain_at e c k   the enable nets e and the clear nets c have 1 and 0 for flip-flop k
 --   plain_to e c n   they have so for the first n
 --   plain d         for all flip-flops of the design d
 --   version_of d     the version of its image

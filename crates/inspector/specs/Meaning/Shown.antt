@@ -13,7 +13,7 @@ use Rattle.format.specs.Meaning.Format.{decoded}
 use Rattle.format.specs.Meaning.Faults.{ImageFault}
 use Rattle.pieces.specs.Meaning.Pieces.{bytes, field, last_field}
 
--- so that bytes left over are noticed; what is written of so many bytes is what would be written of all (law whole-image)
+-- so that bytes left over are noticed; what is written of so many bytes is what would be written of all (law whole_image)
 abbrev pub most_read : ℕ
 most_read = most_bytes + 1
 

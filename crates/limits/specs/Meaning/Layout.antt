@@ -5,7 +5,7 @@
 --   nets_each v                                nets a flip-flop in an image of version v
 --   tails_for v l o                            nets behind the cells of an image of version v, l flip-flops and o outputs
 --   bits_for v g l o, bytes_for v g l o         bits and bytes of an image of version v, g cells, l flip-flops and o outputs
---   most_bytes_lem                                 bytes of the largest image
+--   most_bytes                                 bytes of the largest image
 use Rattle.std.specs.Prelude.{ℕ, ◌+◌, ◌*◌, ◌/◌, cond, eqb}
 use Rattle.limits.specs.Meaning.Limits.{most_latches, most_outputs, most_cells}
 

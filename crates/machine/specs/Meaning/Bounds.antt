@@ -26,16 +26,16 @@ most_rounds z = z.old + z.new - 1
 abbrev pub most_list : Sizes → ℕ
 most_list z = (z.old + z.new - 1) * (z.old * z.new - 1)
 
--- "So a list slice of 255 bytes can never bring 16 when a trace is sought": document 01 has at most 128 states (law trace-room)
+-- "So a list slice of 255 bytes can never bring 16 when a trace is sought": document 01 has at most 128 states (law trace_room_lem)
 abbrev pub trace_room : ℕ
 trace_room = 255
 
--- "The bench wants to know what length of list always suffices": 255 × 16,383 (law verdict-room)
+-- "The bench wants to know what length of list always suffices": 255 × 16,383 (law verdict_room_lem)
 abbrev pub verdict_room : ℕ
 verdict_room = 4177665
 
 module _ (m0 m1 : Machine) (Ok : ℕ → Type 0) (z : Sizes) where
-  -- so it is of any two designs (law designs-stay of compare), and of tables in which 13 finds nothing (law tables-stay)
+  -- so it is of any two designs (law designs_stay of compare), and of tables in which 13 finds nothing (law tables_stay)
   abbrev pub StaysIn : Type 0
   StaysIn = (p : Pair) (v : ℕ) → In z p → Ok v → In z (step m0 m1 p v)
 

@@ -1,5 +1,5 @@
 -- The old sense of alike, of which request §9 says "Every pair alike in the finer sense is alike in the old, and with nothing watched the
--- two meanings coincide" (laws alike-outputs and outputs-alike).
+-- two meanings coincide" (laws alike_outputs and outputs_alike).
 --   AlikeOutputs m0 m1 Ok p   Definition 4 as it stood before: the outputs alone count
 --   unwatched m               the machine m with nothing watched: every watched value is 0
 use Rattle.std.specs.Prelude.{◌≡◌, List, ℕ}

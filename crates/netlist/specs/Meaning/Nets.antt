@@ -3,7 +3,7 @@
 --   source d s v n            the value of net n, which no cell drives
 --   settle d f                one round: every cell's net takes what its gate makes of the values f
 --   settled d s v r n         the value of net n after r such rounds
---   is_live_lem d n                net n comes before those of cells, or is that of a kept cell
+--   is_live d n                net n comes before those of cells, or is that of a kept cell
 --   value d s v n             the value of net n in state s under vector v
 --   Satisfies d s v f         the assignment f gives every net what its source or its kept cell says, and that of a dead cell 0
 --   latched c e x h           what a flip-flop that holds h makes of the values of its clear c, enable e and data x

@@ -15,7 +15,7 @@ abbrev pub bytes : String → List ℕ
 bytes end = []
 bytes (c then s) = code c ∷ bytes s
 
--- "the rest decimal": n has one digit below 10, else one more than n / 10. That these are the fewest that hold n is a law (places-fewest)
+-- "the rest decimal": n has one digit below 10, else one more than n / 10. That these are the fewest that hold n is a law (places_fewest)
 unfoldable pub places_in : ℕ → ℕ → ℕ
 places_in zero n = 1
 places_in (suc k) n = cond (ltb n 10) 1 (suc (places_in k (n / 10)))
