@@ -1,129 +1,70 @@
 // The bytes that a text with escapes spells.
-ghost use Rattle.std.specs.Prelude.{◌+◌, ◌<◌, ◌≤◌, length};
+ghost use Rattle.std.specs.Prelude.{◌≡◌, ◌<◌, ◌≤◌, length, IfSome};
 
 use converter::Text;
 
-// Whether a text is spelled by the rules and has room, and how many bytes were written.
+// A byte that a text is filled with up to an end, and what spells the bytes behind it.
 #[derive(Clone, Copy)]
-pub(crate) struct Decoded {
-    pub fine: bool,
-    pub bytes: usize,
-}
-
-// Writes the bytes that are spelled behind a colon.
-pub(crate) fn decode(spelled: &[u8], text: &mut [u8]) -> Decoded
-    ensures { result.bytes ≤ length text.new }
-{
-    let mut n = 0;
-    let mut at = 1;
-    while at < spelled.len() {
-        let c = byte_at(spelled, at, n);
-        if c.next == 0 {
-            return Decoded {
-                fine: false,
-                bytes: n,
-            };
-        }
-        if n == text.len() {
-            return Decoded {
-                fine: false,
-                bytes: n,
-            };
-        }
-        text[n] = c.byte;
-        n += 1;
-        at = c.next;
-    }
-    Decoded {
-        fine: spelled.len() > 0,
-        bytes: n,
-    }
-}
-
-// A byte, and where the next one is spelled; 0 if nothing is spelled.
-#[derive(Clone, Copy)]
-struct Spelled {
+struct Spelled<'a> {
     byte: u8,
-    next: usize,
+    end: usize,
+    rest: &'a [u8],
 }
 
-// The byte spelled at a place, of a text that has n bytes so far.
-fn byte_at(spelled: &[u8], at: usize, n: usize) -> Spelled
-    requires { at < length spelled.now }
+// Writes the bytes that are spelled behind a colon, as long as they are spelled by the rules and have room: how many they are.
+pub(crate) fn decode(spelled: &[u8], text: &mut [u8]) -> Option<usize>
+    ensures { IfSome result (λ n. n ≤ length text.new) }
 {
-    let first = spelled[at];
-    if first != b'\\' {
-        return Spelled {
-            byte: first,
-            next: at + 1,
-        };
+    let (_, mut rest) = spelled.split_first()?;
+    let mut n = 0;
+    while !rest.is_empty() {
+        let next = next_of(rest, n)?;
+        text.get_mut(n..next.end)?.fill(next.byte);
+        n = next.end;
+        rest = next.rest;
     }
-    if spelled.len() - at < 2 {
-        return Spelled { byte: 0, next: 0 };
-    }
-    match spelled[at + 1] {
-        b'n' => Spelled {
-            byte: b'\n',
-            next: at + 2,
-        },
-        b't' => Spelled {
-            byte: b'\t',
-            next: at + 2,
-        },
-        b'r' => Spelled {
-            byte: b'\r',
-            next: at + 2,
-        },
-        b'\\' => Spelled {
-            byte: b'\\',
-            next: at + 2,
-        },
-        b'x' => pair(spelled, at),
-        b'z' => zero(at, at + 2, n),
-        _ => Spelled { byte: 0, next: 0 },
-    }
+    Some(n)
 }
 
-// The byte spelled by the two digits of \xHH.
-fn pair(spelled: &[u8], at: usize) -> Spelled
-    requires { at < length spelled.now }
+// What is spelled next, of a text that has n bytes so far.
+fn next_of(spelled: &[u8], n: usize) -> Option<Spelled<'_>>
+    ensures { IfSome result (λ s. length s.rest.now < length spelled.now) }
 {
-    if spelled.len() - at < 4 {
-        return Spelled { byte: 0, next: 0 };
-    }
-    let high = digit(spelled[at + 2]);
-    let low = digit(spelled[at + 3]);
-    if high > 15 {
-        return Spelled { byte: 0, next: 0 };
-    }
-    if low > 15 {
-        return Spelled { byte: 0, next: 0 };
-    }
-    Spelled {
-        byte: high * 16 + low,
-        next: at + 4,
-    }
+    let (byte, rest) = match spelled {
+        [b'\\', b'n', rest @ ..] => (b'\n', rest),
+        [b'\\', b't', rest @ ..] => (b'\t', rest),
+        [b'\\', b'r', rest @ ..] => (b'\r', rest),
+        [b'\\', b'\\', rest @ ..] => (b'\\', rest),
+        [b'\\', b'x', high, low, rest @ ..] => (digit(*high)? * 16 + digit(*low)?, rest),
+        [b'\\', b'z', rest @ ..] => return zeros(n, rest),
+        [b'\\', ..] | [] => return None,
+        [byte, rest @ ..] => (*byte, rest),
+    };
+    let end = n.checked_add(1)?;
+    Some(Spelled { byte, end, rest })
 }
 
-// A zero byte of \z, which is spelled at a place again until the text is a mebibyte long; a text that is so long has none.
-fn zero(at: usize, behind: usize, n: usize) -> Spelled {
+// As many zero bytes as make a text of n bytes a mebibyte long; a text that is so long has none.
+fn zeros(n: usize, rest: &[u8]) -> Option<Spelled<'_>>
+    ensures { IfSome result (λ s. s.rest.now ≡ rest.now) }
+{
     if n >= Text::MOST_BYTES {
-        return Spelled { byte: 0, next: 0 };
+        return None;
     }
-    if n == Text::MOST_BYTES - 1 {
-        return Spelled {
-            byte: 0,
-            next: behind,
-        };
-    }
-    Spelled { byte: 0, next: at }
+    Some(Spelled {
+        byte: 0,
+        end: Text::MOST_BYTES,
+        rest,
+    })
 }
 
-// The value of a hexadecimal digit, 16 for any other byte.
-fn digit(c: u8) -> u8 {
+// The value of a hexadecimal digit.
+fn digit(c: u8) -> Option<u8>
+    ensures { IfSome result (λ d. d ≤ 15) }
+{
     match c {
-        b'0'..=b'9' => c - b'0',
-        b'A'..=b'F' => c - b'A' + 10,
-        _ => 16,
+        b'0'..=b'9' => Some(c - b'0'),
+        b'A'..=b'F' => Some(c - b'A' + 10),
+        _ => None,
     }
 }

@@ -1,4 +1,5 @@
 -- The number in front of the images: its four parts, where the images begin, and that one byte more than both have decides what is printed.
+use Rattle.std.proofs.Common.{Some, Option, ℕ}
 use Prim.Native.Nat.{ℕ, zero, suc, ◌+◌, ◌-◌, ◌*◌, ◌/◌, ◌<◌, ◌≤◌, min}
 use mathlib.Core.Path.{◌≡◌, refl, sym, ◌∙◌, ap, subst}
 use mathlib.Core.List.{List, [], ◌∷◌}
@@ -11,10 +12,8 @@ use Rattle.reader.specs.declared.Numbers.{Numbers}
 use Rattle.reader.specs.Meaning.Fields.{bit_at, field_at}
 use Rattle.reader.specs.Working.Taking.{run_at}
 use Rattle.reader.proofs.Spelling.{field_append}
-use Rattle.streams.specs.declared.Input.{Input}
 use Rattle.streams.specs.Meaning.Output.{Sends}
 use Rattle.streams.proofs.Sending.{one_answer}
-use Rattle.panel.specs.declared.Panel.{Panel}
 use Rattle.align_report.specs.Meaning.Report.{Reports, Prints, own_tables, own_slices, most_read}
 use Rattle.align_report.proofs.Cut.{same_bit, whole_input}
 use Rattle.align_report.proofs.Determined.{prints_unique}
@@ -43,11 +42,8 @@ module _ (room : List ℕ) {n m : ℕ} (fits : n ≤ length room) (is : m ≡ mi
   long : length got ≡ n
   long = length-take-le n room fits
 
-  pub starts : m ≤ length got
-  starts = omega (arith, long)
-
-  pub printed : {a r : ℕ} {list text' : List ℕ} → a ≡ allowed_in got → Reports (Panel.Named a) (take (length got - m) (drop m got)) own_tables (own_slices 32768) list text' r → OutputsAllowed got text' 1 r
-  printed {a} {r} {list} {text'} e p = record { prints = subst (λ (k : ℕ). Prints (Panel.Named k) (images_in got) text' r) e (record { list = list; reports = subst (λ (l : List ℕ). Reports (Panel.Named a) l own_tables (own_slices 32768) list text' r) there p }); stream = refl }
+  pub printed : {a r : ℕ} {list text' : List ℕ} → a ≡ allowed_in got → Reports (Some a) (take (length got - m) (drop m got)) own_tables (own_slices 32768) list text' r → OutputsAllowed got text' 1 r
+  printed {a} {r} {list} {text'} e p = record { prints = subst (λ (k : ℕ). Prints (Some k) (images_in got) text' r) e (record { list = list; reports = subst (λ (l : List ℕ). Reports (Some a) l own_tables (own_slices 32768) list text' r) there p }); stream = refl }
     where
       there : take (length got - m) (drop m got) ≡ images_in got
       there = rest m got ∙ ap (λ (k : ℕ). drop k got) (is ∙ ap (λ (k : ℕ). min 8 k) (sym long)) ∙ behind 8 got
@@ -66,13 +62,13 @@ allowed_cut b = horner_cong (λ j. bit_at (take most_read_allowed b) (0 + j)) (�
 
 pub whole_allowed : (b text' : List ℕ) (k r : ℕ) → OutputsAllowed (take most_read_allowed b) text' k r → OutputsAllowed b text' k r
 whole_allowed b text' k r p = record {
-  prints = whole_input (Panel.Named (allowed_in b)) (images_in b) text' r
-      (subst (λ (l : List ℕ). Prints (Panel.Named (allowed_in b)) l text' r) (drop_take 8 most_read most_read_allowed b refl)
-      (subst (λ (n : ℕ). Prints (Panel.Named n) (images_in (take most_read_allowed b)) text' r) (allowed_cut b) p.prints));
+  prints = whole_input (Some (allowed_in b)) (images_in b) text' r
+      (subst (λ (l : List ℕ). Prints (Some (allowed_in b)) l text' r) (drop_take 8 most_read most_read_allowed b refl)
+      (subst (λ (n : ℕ). Prints (Some n) (images_in (take most_read_allowed b)) text' r) (allowed_cut b) p.prints));
   stream = p.stream;
 }
 
 -- one text goes out of an input
-pub one_sending_allowed : (i : Input) (room a b : List ℕ) (k l r s : ℕ) → Sends unread_allowed OutputsAllowed i room a k r → Sends unread_allowed OutputsAllowed i room b l s → (k ≡ l) × (take r a ≡ take s b)
+pub one_sending_allowed : (i : Option ℕ) (room a b : List ℕ) (k l r s : ℕ) → Sends unread_allowed OutputsAllowed i room a k r → Sends unread_allowed OutputsAllowed i room b l s → (k ≡ l) × (take r a ≡ take s b)
 one_sending_allowed i room a b k l r s p q =
-    one_answer (λ t c d. (c.stream ∙ sym d.stream, prints_unique (Panel.Named (allowed_in t)) (images_in t) a b r s c.prints d.prints)) p.says q.says
+    one_answer (λ t c d. (c.stream ∙ sym d.stream, prints_unique (Some (allowed_in t)) (images_in t) a b r s c.prints d.prints)) p.says q.says

@@ -4,12 +4,11 @@
 
 ghost use Rattle.std.specs.Prelude.{◌≡◌, ◌+◌, ◌*◌, ◌≤◌, length};
 ghost use Rattle.streams.specs.Meaning.Input.{Within};
-ghost use Rattle.streams.specs.Meaning.Output.{Sends};
+ghost use Rattle.streams.specs.Meaning.Output.{stream_number, Sends};
 ghost use Rattle.align_allowed.specs.Meaning.Allowing.{allowed_in, OutputsAllowed, most_read_allowed, unread_allowed};
 
 use limits::Image;
-use panel::Panel;
-use streams::{Input, Output};
+use streams::{Output, Stream};
 
 // The bytes of the number.
 const NUMBER: usize = 8;
@@ -34,19 +33,26 @@ fn main(rt: HostRuntime) {
 }
 
 // Puts what the program writes of its room into a text: what it prints of what was read, or the words that nothing could be read.
-fn answer(room: &[u8], input: Input, text: &mut [u8]) -> Output
+fn answer(room: &[u8], input: Option<usize>, text: &mut [u8]) -> Output
     requires { (length room.now ≡ most_read_allowed) × (Within input room.now) × (400 + 12 * 32768 ≤ length text.old) }
-    ensures { Sends unread_allowed OutputsAllowed input room.now text.new result.stream result.length }
+    ensures { Sends unread_allowed OutputsAllowed input room.now text.new (stream_number result.stream) result.length }
 {
-    let Input::Read(n) = input else {
+    let Some(n) = input else {
         return streams::put_unread(b"align_allowed: standard input cannot be read\n", text);
     };
     let mut list = [0u8; STEPS];
     let read = &room[..n];
-    let panel = Panel::Named(allowed_in(read));
-    let images = memory::shorter(NUMBER, n);
-    let length = align_report::write_report(&read[images..], panel, &mut list, text);
-    Output { stream: 1, length }
+    let images = NUMBER.min(n);
+    let length = align_report::write_report(
+        &read[images..],
+        Some(allowed_in(read)),
+        &mut list,
+        text,
+    );
+    Output {
+        stream: Stream::Stdout,
+        length,
+    }
 }
 
 // The number in the first eight bytes, of which the first is the most significant; past their end there are zeros.
@@ -54,7 +60,7 @@ fn allowed_in(input: &[u8]) -> u64
     ensures { result ≡ allowed_in input.now }
 {
     let parts = reader::run(input, 0, 16, 16, 16, 16, 0);
-    let high = parts.first as u64 * 65536 + parts.second as u64;
-    let low = parts.third as u64 * 65536 + parts.fourth as u64;
+    let high = u64::from(parts.first) * 65536 + u64::from(parts.second);
+    let low = u64::from(parts.third) * 65536 + u64::from(parts.fourth);
     high * 4294967296 + low
 }

@@ -1,4 +1,5 @@
 -- What the comparison leaves to print: designs that were accepted, their tables, and the pair and the counts of its answer.
+use Rattle.std.proofs.Common.{Result}
 use Prim.Native.Nat.{ℕ, ◌≤◌}
 use mathlib.Core.Path.{◌≡◌}
 use mathlib.Core.List.{[]}
@@ -15,8 +16,7 @@ use Rattle.machine.specs.Meaning.Lent.{Lent, Left}
 use Rattle.machine.specs.Meaning.Tables.{Ok}
 use Rattle.verdict.specs.declared.Verdict.{Verdict}
 use Rattle.verdict.specs.declared.Judged.{Judged}
-use Rattle.verdict.specs.Meaning.Decision.{CountsPairs}
-use Rattle.verdict.specs.Meaning.Decision as D
+use Rattle.verdict.specs.Meaning.Decision.{steps_of, CountsPairs}
 use Rattle.compare.specs.Meaning.Designs.{machine_of, sizes_of}
 use Rattle.compare.specs.Meaning.Comparing.{TablesLent, TablesLeft, CompareFault, Compared, Compares}
 use Rattle.compare.proofs.Agreement.{states_few, vectors_few}
@@ -34,33 +34,23 @@ module _ {a b : Design} {allowed : ℕ} {n : TablesLent} {s : Lent} {t : TablesL
   abbrev CountsHere : Type 0
   CountsHere = CountsPairs (machine_of a []) (machine_of b []) (Ok (sizes_of a b allowed)) (sizes_of a b allowed) r.alike r.alignable
 
-  module _ {m : ℕ} (is : r.verdict ≡ Verdict.Same m) where
-    pub found_same : Free (CompareFault a b [] [] allowed n s) × Compared a b [] [] allowed t e (D.same m)
-    found_same = rw is at w.keeps
+  module _ {v : Verdict} (is : r.verdict ≡ Result.Ok v) where
+    pub found : Free (CompareFault a b [] [] allowed n s) × Compared a b [] [] allowed t e v
+    found = rw is at w.keeps
 
-    pub same_facts : (Accepted a × Accepted b) × CountsHere
-    same_facts = (accepted found_same.0, rw is at w.counts)
+    pub facts : (Accepted a × Accepted b) × CountsHere
+    facts = (accepted found.0, rw is at w.counts)
 
-    pub same_fits : m ≤ length e.written
-    same_fits = found_same.1.decided.fits
+    pub fits : steps_of v ≤ length e.written
+    fits = found.1.decided.fits
 
-  module _ {p : Pair} {m : ℕ} (is : r.verdict ≡ Verdict.Apart p m) where
-    pub found_apart : Free (CompareFault a b [] [] allowed n s) × Compared a b [] [] allowed t e (D.apart p m)
-    found_apart = rw is at w.keeps
-
-    pub apart_facts : (Accepted a × Accepted b) × CountsHere
-    apart_facts = (accepted found_apart.0, rw is at w.counts)
-
-    -- the pair named is one of few
-    small : Small (sizes_of a b allowed) p
-    small =
-        let i = found_apart.1.decided.sought.lowest.inside in
-        let x = apart_facts.0 in
-        record {
-          few_vectors = vectors_few x.0;
-          small_old = omega (arith, i.in_old, states_few x.0);
-          small_new = omega (arith, i.in_new, states_few x.1);
-        }
-
-    pub apart_fits : {z : Sizes} → z ≡ sizes_of a b allowed → Small z p × (m ≤ length e.written)
-    apart_fits same = (rw same small, found_apart.1.decided.fits)
+  -- the pair named is one of few
+  pub small : {z : Sizes} {p : Pair} {m : ℕ} → r.verdict ≡ Result.Ok (Verdict.Apart p m) → z ≡ sizes_of a b allowed → Small z p
+  small is same =
+      let i = (found is).1.decided.sought.lowest.inside in
+      let x = (facts is).0 in
+      rw same (record {
+        few_vectors = vectors_few x.0;
+        small_old = omega (arith, i.in_old, states_few x.0);
+        small_new = omega (arith, i.in_new, states_few x.1);
+      })

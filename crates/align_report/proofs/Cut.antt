@@ -1,4 +1,5 @@
 -- Input that is longer than any two images need not be read to its end: one byte more than two images have decides what is printed.
+use Rattle.std.proofs.Common.{ℕ, Option}
 use Prim.Native.Nat.{ℕ, ◌+◌, ◌/◌, ◌%◌, ◌<◌, ◌≤◌}
 use mathlib.Core.Path.{◌≡◌, sym, ◌∙◌, ap, subst}
 use mathlib.Core.List.{List}
@@ -18,7 +19,6 @@ use Rattle.format.proofs.Refusals.{within_limits}
 use Rattle.image.proofs.Long.{SameFront, same_bytes_in, header_there, free_there, never_free, lowest_there}
 use Rattle.machine.specs.Meaning.Lent.{Lent}
 use Rattle.compare.specs.Meaning.Comparing.{TablesLent}
-use Rattle.panel.specs.declared.Panel.{Panel}
 use Rattle.align_report.specs.Meaning.Report.{Answers, Prints, most_read}
 
 pub same_bit : (b c : List ℕ) (i : ℕ) → get_or b (i / 8) 0 ≡ get_or c (i / 8) 0 → bit_at b i ≡ bit_at c i
@@ -64,13 +64,13 @@ module _ (b : List ℕ) (long : most_read ≤ length b) where
   old_refused {k} (FrontRefused.header l) = FrontRefused.header (header_there whole l)
   old_refused {k} (FrontRefused.image f l) = FrontRefused.image (free_there whole f) (subst (λ (c : List ℕ). First (ImageFault c) k) (same_old f) l)
 
-  pub cut_input : (p : Panel) (n : TablesLent) (s : Lent) (l t : List ℕ) → Answers p cut n s l t → Answers p b n s l t
+  pub cut_input : (p : Option ℕ) (n : TablesLent) (s : Lent) (l t : List ℕ) → Answers p cut n s l t → Answers p b n s l t
   cut_input p n s l t (Answers.old_refused k r z e) = Answers.old_refused k (old_refused r) z e
   cut_input p n s l t (Answers.new_refused k a f z e) = Answers.new_refused k (old_accepted a) (lowest_there (behind a.header) f) z e
   cut_input p n s l t (Answers.designs a f d) = absurd (never_free (behind a.header) f)
 
 -- so the room that is read into is long enough
-pub whole_input : (o : Panel) (b text' : List ℕ) (r : ℕ) → Prints o (take most_read b) text' r → Prints o b text' r
+pub whole_input : (o : Option ℕ) (b text' : List ℕ) (r : ℕ) → Prints o (take most_read b) text' r → Prints o b text' r
 whole_input o b text' r p = go (dec_lt (length b) most_read)
   where
     go : Dec (length b < most_read) → Prints o b text' r

@@ -1,4 +1,5 @@
 -- One input has one text, and one list slice beside it.
+use Rattle.std.proofs.Common.{ℕ, Option, Some, None}
 use Prim.Native.Nat.{ℕ}
 use mathlib.Core.Path.{◌≡◌, sym, ◌∙◌, ap}
 use mathlib.Core.List.{List, []}
@@ -12,7 +13,9 @@ use Rattle.machine.specs.Meaning.Lent.{Lent}
 use Rattle.machine.specs.Meaning.Tables.{Ok}
 use Rattle.machine.specs.Working.Pairs.{Closed}
 use Rattle.machine.proofs.Counting.{counts_unique}
-use Rattle.verdict.specs.Meaning.Decision.{Decision, Decided, same, apart}
+use Rattle.verdict.specs.declared.Verdict.{Verdict}
+use Rattle.verdict.specs.declared.Verdict.TheVariants.{Same, Apart}
+use Rattle.verdict.specs.Meaning.Decision.{Decided}
 use Rattle.verdict.proofs.Laws.{decision_unique, list_unique}
 use Rattle.compare.specs.Meaning.Designs.{machine_of, sizes_of, all_vectors}
 use Rattle.compare.specs.Meaning.Comparing.{TablesLent}
@@ -21,10 +24,8 @@ use Rattle.report.specs.declared.Facts.{Facts}
 use Rattle.report.specs.declared.Side.{Side}
 use Rattle.report.specs.declared.Side.TheVariants.{Old, New, Both}
 use Rattle.report.specs.Meaning.Text.{refusal_text}
-use Rattle.streams.specs.declared.Input.{Input}
 use Rattle.streams.specs.Meaning.Output.{Sends}
 use Rattle.streams.proofs.Sending.{one_answer}
-use Rattle.panel.specs.declared.Panel.{Panel}
 use Rattle.align_report.specs.Meaning.Report.{FactsOf, AnswersDesigns, Answers, own_tables, own_slices, Prints, Outputs, unread_message}
 
 facts_unique : (a b : Design) (m : ℕ) (f g : Facts) → FactsOf a b m f → FactsOf a b m g → f ≡ g
@@ -47,10 +48,10 @@ same_refusal x e p q = p ∙ ap (refusal_text x) e ∙ sym q
 
 module _ (l k : List ℕ) (long : length l ≡ length k) where
   module _ (a b : Design) (m : ℕ) (n : TablesLent) (s : Lent) where
-    same_decision : (x y : Decision) → Decided (machine_of a []) (machine_of b []) (Ok (sizes_of a b m)) (sizes_of a b m) l x → Decided (machine_of a []) (machine_of b []) (Ok (sizes_of a b m)) (sizes_of a b m) k y → x ≡ y
+    same_decision : (x y : Verdict) → Decided (machine_of a []) (machine_of b []) (Ok (sizes_of a b m)) (sizes_of a b m) l x → Decided (machine_of a []) (machine_of b []) (Ok (sizes_of a b m)) (sizes_of a b m) k y → x ≡ y
     same_decision x y p q = decision_unique (machine_of a []) (machine_of b []) (sizes_of a b m) (closed a b m) l k long x y p q
 
-    same_list : (x y : Decision) → Decided (machine_of a []) (machine_of b []) (Ok (sizes_of a b m)) (sizes_of a b m) l x → Decided (machine_of a []) (machine_of b []) (Ok (sizes_of a b m)) (sizes_of a b m) k y → l ≡ k
+    same_list : (x y : Verdict) → Decided (machine_of a []) (machine_of b []) (Ok (sizes_of a b m)) (sizes_of a b m) l x → Decided (machine_of a []) (machine_of b []) (Ok (sizes_of a b m)) (sizes_of a b m) k y → l ≡ k
     same_list x y p q = list_unique (machine_of a []) (machine_of b []) (sizes_of a b m) (closed a b m) l k long x y p q
 
     designs_unique : {t u : List ℕ} → AnswersDesigns a b m n s l t → AnswersDesigns a b m n s k u → (t ≡ u) × (l ≡ k)
@@ -61,19 +62,19 @@ module _ (l k : List ℕ) (long : length l ≡ length k) where
     designs_unique (AnswersDesigns.found_apart x f ff o i c p) (AnswersDesigns.refused j y w q) = absurd (x j y.applies)
     designs_unique (AnswersDesigns.found_same x f ff i c p) (AnswersDesigns.found_same y g fg v d q) =
         let e = facts_unique a b m f g ff fg in
-        let h = same_decision (same i) (same v) c d in
-        let r = same_list (same i) (same v) c d in
+        let h = same_decision (Same i) (Same v) c d in
+        let r = same_list (Same i) (Same v) c d in
         (cc, r)
-    designs_unique (AnswersDesigns.found_same x f ff i c p) (AnswersDesigns.found_apart y g fg r v d q) = let h = same_decision (same i) (apart r v) c d in (cc, same_list (same i) (apart r v) c d)
-    designs_unique (AnswersDesigns.found_apart x f ff o i c p) (AnswersDesigns.found_same y g fg v d q) = let h = same_decision (apart o i) (same v) c d in (cc, same_list (apart o i) (same v) c d)
+    designs_unique (AnswersDesigns.found_same x f ff i c p) (AnswersDesigns.found_apart y g fg r v d q) = let h = same_decision (Same i) (Apart r v) c d in (cc, same_list (Same i) (Apart r v) c d)
+    designs_unique (AnswersDesigns.found_apart x f ff o i c p) (AnswersDesigns.found_same y g fg v d q) = let h = same_decision (Apart o i) (Same v) c d in (cc, same_list (Apart o i) (Same v) c d)
     designs_unique (AnswersDesigns.found_apart x f ff o i c p) (AnswersDesigns.found_apart y g fg r v d q) =
         let e = facts_unique a b m f g ff fg in
-        let h = same_decision (apart o i) (apart r v) c d in
-        let w = same_list (apart o i) (apart r v) c d in
+        let h = same_decision (Apart o i) (Apart r v) c d in
+        let w = same_list (Apart o i) (Apart r v) c d in
         (cc, w)
 
   -- so no two texts answer one input, nor two list slices of one length
-  pub answers_unique : (p : Panel) (b : List ℕ) (n : TablesLent) (s : Lent) {t u : List ℕ} → Answers p b n s l t → Answers p b n s k u → (t ≡ u) × (l ≡ k)
+  pub answers_unique : (p : Option ℕ) (b : List ℕ) (n : TablesLent) (s : Lent) {t u : List ℕ} → Answers p b n s l t → Answers p b n s k u → (t ≡ u) × (l ≡ k)
   answers_unique panel b n s (Answers.old_refused i x z p) (Answers.old_refused j y w q) = (same_refusal Old (front_number x y) p q, zero_unique l k long z w)
   answers_unique panel b n s (Answers.old_refused i x z p) (Answers.new_refused j a y w q) = absurd (front_not_both x a)
   answers_unique panel b n s (Answers.old_refused i x z p) (Answers.designs a y d) = absurd (front_not_both x a)
@@ -84,25 +85,25 @@ module _ (l k : List ℕ) (long : length l ≡ length k) where
   answers_unique panel b n s (Answers.designs a x c) (Answers.new_refused j o y w q) = absurd (x j y.applies)
   answers_unique panel b n s (Answers.designs a x c) (Answers.designs o y d) = designs_unique _ _ _ n s c d
 
--- a panel that names every vector of the designs is `Panel.Every`
+-- a number that names every vector of the designs is as good as none
 module _ (b : List ℕ) (n : TablesLent) (s : Lent) where
-  abbrev Named : Panel
-  Named = Panel.Named (all_vectors (front_design b))
+  abbrev Named : Option ℕ
+  Named = Some (all_vectors (front_design b))
 
-  pub every_named : {l t : List ℕ} → Answers Named b n s l t → Answers Panel.Every b n s l t
+  pub every_named : {l t : List ℕ} → Answers Named b n s l t → Answers None b n s l t
   every_named (Answers.old_refused k r z e) = Answers.old_refused k r z e
   every_named (Answers.new_refused k a f z e) = Answers.new_refused k a f z e
   every_named (Answers.designs a f d) = Answers.designs a f d
 
-  pub named_every : {l t : List ℕ} → Answers Panel.Every b n s l t → Answers Named b n s l t
+  pub named_every : {l t : List ℕ} → Answers None b n s l t → Answers Named b n s l t
   named_every (Answers.old_refused k r z e) = Answers.old_refused k r z e
   named_every (Answers.new_refused k a f z e) = Answers.new_refused k a f z e
   named_every (Answers.designs a f d) = Answers.designs a f d
 
 -- one text is printed of an input under a panel
-pub prints_unique : (p : Panel) (b t u : List ℕ) (r q : ℕ) → Prints p b t r → Prints p b u q → take r t ≡ take q u
+pub prints_unique : (p : Option ℕ) (b t u : List ℕ) (r q : ℕ) → Prints p b t r → Prints p b u q → take r t ≡ take q u
 prints_unique p b t u r q x y =
     (answers_unique x.list y.list (x.reports.kept ∙ sym y.reports.kept) p b own_tables (own_slices 32768) x.reports.answers y.reports.answers).0
 
-pub one_sending : (i : Input) (room a b : List ℕ) (k l r s : ℕ) → Sends unread_message Outputs i room a k r → Sends unread_message Outputs i room b l s → (k ≡ l) × (take r a ≡ take s b)
-one_sending i room a b k l r s p q = one_answer (λ t c d. (c.stream ∙ sym d.stream, prints_unique Panel.Every t a b r s c.prints d.prints)) p.says q.says
+pub one_sending : (i : Option ℕ) (room a b : List ℕ) (k l r s : ℕ) → Sends unread_message Outputs i room a k r → Sends unread_message Outputs i room b l s → (k ≡ l) × (take r a ≡ take s b)
+one_sending i room a b k l r s p q = one_answer (λ t c d. (c.stream ∙ sym d.stream, prints_unique None t a b r s c.prints d.prints)) p.says q.says

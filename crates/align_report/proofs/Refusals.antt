@@ -1,5 +1,6 @@
 -- "`REFUSED BOTH n` (10 and 16)": with slices as long as those of the program, no other number is printed of two accepted images where every
 -- vector can occur, and none but these and 20 where a number says which can. And 16 is never of a trace (request §7).
+use Rattle.std.proofs.Common.{None}
 use Prim.Native.Nat.{ℕ, ◌<◌, ◌≤◌}
 use mathlib.Core.Path.{◌≡◌, refl}
 use mathlib.Core.Logic.{◌⊎◌, inl, inr, ⊎_elim}
@@ -26,7 +27,6 @@ use Rattle.compare.specs.Meaning.Comparing.{CompareFault}
 use Rattle.compare.proofs.Agreement.{states_few, vectors_some, vectors_few}
 use Rattle.compare.proofs.Lengths.{first_same}
 use Rattle.compare.proofs.Watched.{nothing_watchable}
-use Rattle.panel.specs.declared.Panel.{Panel}
 use Rattle.panel.specs.Meaning.Panel.{allowed_by}
 use Rattle.align_report.specs.Meaning.Report.{new_design, own_tables, own_slices}
 
@@ -63,7 +63,7 @@ module _ (b : List ℕ) (i k : ℕ) (x : FrontAccepted b) (y : Free (ImageFault 
   pub refused_named : (m : ℕ) → First (CompareFault (front_design b) (new_design b) [] [] m own_tables (own_slices i)) k → ((k ≡ 10) ⊎ (k ≡ 16)) ⊎ (k ≡ 20)
   refused_named m l = ⊎_elim (λ e. inl e) (λ e. inr e.0) (any m l.applies)
 
-  pub refused_both : First (CompareFault (front_design b) (new_design b) [] [] (allowed_by Panel.Every (vectors_of (front_design b))) own_tables (own_slices i)) k → (k ≡ 10) ⊎ (k ≡ 16)
+  pub refused_both : First (CompareFault (front_design b) (new_design b) [] [] (allowed_by None (vectors_of (front_design b))) own_tables (own_slices i)) k → (k ≡ 10) ⊎ (k ≡ 16)
   refused_both l = ⊎_elim (λ e. e) (λ e. absurd (ones_right (vectors_some (front_design b)) refl e.1)) (any _ l.applies)
 
 -- request §7: 16 says that the designs are the same, with a list of more steps than the list slice has bytes

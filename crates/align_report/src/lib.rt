@@ -3,11 +3,10 @@
 // and scratch are held here, for designs at every limit.
 #![tactic(auto)]
 
-mod numbers_of;
-
-ghost use Rattle.machine.specs.Meaning.Lent.{lent_of};
-ghost use Rattle.memory.specs.Meaning.Tables.{table_of, lengths_of};
-ghost use Rattle.std.specs.Prelude.{◌≡◌, ◌+◌, ◌*◌, ◌≤◌, [], length};
+ghost use Rattle.machine.specs.Meaning.Lent.{lent_in};
+ghost use Rattle.memory.specs.Meaning.Tables.{held_in, lengths_of};
+ghost use Rattle.std.specs.Prelude.{◌≡◌, ◌+◌, ◌*◌, ◌≤◌, [], length, IfErr};
+ghost use Rattle.memory.specs.Meaning.Refusals.{number_of};
 ghost use Rattle.memory.specs.Meaning.Slices.{Zero};
 ghost use Rattle.netlist.specs.Meaning.Faults.{Accepted};
 ghost use Rattle.machine.specs.Meaning.Tables.{Ok};
@@ -15,17 +14,18 @@ ghost use Rattle.verdict.specs.Meaning.Decision.{CountsPairs};
 ghost use Rattle.compare.specs.Meaning.Designs.{machine_of, sizes_of};
 ghost use Rattle.compare.specs.Meaning.Comparing.{tables_lent_of};
 ghost use Rattle.streams.specs.Meaning.Input.{Within};
-ghost use Rattle.streams.specs.Meaning.Output.{Sends};
+ghost use Rattle.pieces.specs.Meaning.Pieces.{Printed};
+ghost use Rattle.report.specs.Meaning.Text.{refusal_text};
+ghost use Rattle.streams.specs.Meaning.Output.{stream_number, Sends};
 ghost use Rattle.align_report.specs.Meaning.Report.{FactsOf, Reports, own_tables, own_slices, Outputs, most_read, unread_message};
 ghost use Rattle.align_report.specs.Working.Tabled.{ReportsDesigns};
 
-use image::{Answer, Length};
 use limits::Image;
-use machine::Sizes;
+use machine::{Sizes, TablesRef};
+use memory::{Refusal, Scratch, TableMut};
 use netlist::Design;
-use panel::Panel;
 use report::{Facts, Side};
-use streams::{Input, Output};
+use streams::{Output, Stream};
 use verdict::{Judged, Verdict};
 
 // Entries of the tables of the largest design, and pairs of two such designs.
@@ -37,22 +37,26 @@ const PAIRS: usize = 1 << (Image::MOST_LATCHES + Image::MOST_LATCHES);
 const STEPS: usize = 32768;
 
 // Puts what the program writes of its room into a text: what it prints of what was read, or the words that nothing could be read.
-pub fn answer(room: &[u8], input: Input, text: &mut [u8]) -> Output
+pub fn answer(room: &[u8], input: Option<usize>, text: &mut [u8]) -> Output
     requires { (length room.now ≡ most_read) × (Within input room.now) × (400 + 12 * 32768 ≤ length text.old) }
-    ensures { Sends unread_message Outputs input room.now text.new result.stream result.length }
+    ensures { Sends unread_message Outputs input room.now text.new (stream_number result.stream) result.length }
 {
-    let Input::Read(n) = input else {
+    let Some(n) = input else {
         return streams::put_unread(b"align: standard input cannot be read\n", text);
     };
     let mut list = [0u8; STEPS];
-    let length = write_report(&room[..n], Panel::Every, &mut list, text);
-    Output { stream: 1, length }
+    let length = write_report(&room[..n], None, &mut list, text);
+    Output {
+        stream: Stream::Stdout,
+        length,
+    }
 }
 
-// Writes what is printed of two images, with a list slice of any length, and hands back how many bytes it has.
-pub fn write_report(input: &[u8], panel: Panel, list: &mut [u8], text: &mut [u8]) -> usize
+// Writes what is printed of two images, with a list slice of any length, and hands back how many bytes it has. The vectors that can occur
+// are those that a number names, or all.
+pub fn write_report(input: &[u8], named: Option<u64>, list: &mut [u8], text: &mut [u8]) -> usize
     requires { 400 + 12 * length list.old ≤ length text.old }
-    ensures { Reports panel input.now own_tables (own_slices (length list.old)) list.new text.new result }
+    ensures { Reports named input.now own_tables (own_slices (length list.old)) list.new text.new result }
 {
     let mut old_next = [0u8; ENTRIES];
     let mut old_out = [0u8; ENTRIES];
@@ -62,18 +66,24 @@ pub fn write_report(input: &[u8], panel: Panel, list: &mut [u8], text: &mut [u8]
     let mut new_seen = [0u8; ENTRIES];
     let mut depth = [0u8; PAIRS];
     let mut reach = [0u16; PAIRS];
-    memory::clear_bytes(list);
+    list.fill(0);
     write_images(
         input,
-        panel,
-        &mut old_next,
-        &mut old_out,
-        &mut old_seen,
-        &mut new_next,
-        &mut new_out,
-        &mut new_seen,
-        &mut depth,
-        &mut reach,
+        named,
+        &mut TableMut {
+            next: &mut old_next,
+            out: &mut old_out,
+            seen: &mut old_seen,
+        },
+        &mut TableMut {
+            next: &mut new_next,
+            out: &mut new_out,
+            seen: &mut new_seen,
+        },
+        &mut Scratch {
+            depth: &mut depth,
+            reach: &mut reach,
+        },
         list,
         text,
     )
@@ -83,45 +93,35 @@ pub fn write_report(input: &[u8], panel: Panel, list: &mut [u8], text: &mut [u8]
 // header says, and the rest is the new one.
 fn write_images(
     input: &[u8],
-    panel: Panel,
-    old_next: &mut [u8],
-    old_out: &mut [u8],
-    old_seen: &mut [u8],
-    new_next: &mut [u8],
-    new_out: &mut [u8],
-    new_seen: &mut [u8],
-    depth: &mut [u8],
-    reach: &mut [u16],
+    named: Option<u64>,
+    old_table: &mut TableMut<'_>,
+    new_table: &mut TableMut<'_>,
+    scratch: &mut Scratch<'_>,
     list: &mut [u8],
     text: &mut [u8],
 ) -> usize
     requires list_in_bounds { 400 + 12 * length list.old ≤ length text.old }
     requires zero { Zero list.old }
-    ensures { Reports panel input.now
-        (tables_lent_of (lengths_of (table_of old_next.old old_out.old old_seen.old)) (lengths_of (table_of new_next.old new_out.old new_seen.old)))
-        (lent_of (length depth.old) (length reach.old) (length list.old)) list.new text.new result }
+    ensures { Reports named input.now
+        (tables_lent_of (lengths_of (held_in old_table.old)) (lengths_of (held_in new_table.old))) (lent_in scratch.old list.old)
+        list.new text.new result }
 {
     let measured = image::length_of(input);
-    let Length::Bytes(n) = measured else {
-        return report::put_refusal(Side::Old, numbers_of::length(measured), text);
+    let Ok(n) = measured else {
+        return put_refused(Side::Old, measured, text);
     };
     let first = image::read(&input[..n]);
-    let answer = first.answer;
-    let Answer::Accepted = answer else {
-        return report::put_refusal(Side::Old, numbers_of::answer(answer), text);
+    let Ok(()) = first.answer else {
+        return put_refused(Side::Old, first.answer, text);
     };
     let second = image::read(&input[n..]);
-    let answer = second.answer;
-    let Answer::Accepted = answer else {
-        return report::put_refusal(Side::New, numbers_of::answer(answer), text);
+    let Ok(()) = second.answer else {
+        return put_refused(Side::New, second.answer, text);
     };
     let old = first.design;
     let new = second.design;
-    let allowed = panel::allowed_by(panel, old.inputs);
-    write_comparison(
-        old, new, allowed, old_next, old_out, old_seen, new_next, new_out, new_seen, depth, reach,
-        list, text,
-    )
+    let allowed = panel::allowed_by(named, old.inputs);
+    write_comparison(old, new, allowed, old_table, new_table, scratch, list, text)
 }
 
 // The text on two designs, of whose vectors the number allows those that can occur. No net is watched.
@@ -129,40 +129,54 @@ fn write_comparison(
     old: Design,
     new: Design,
     allowed: u64,
-    old_next: &mut [u8],
-    old_out: &mut [u8],
-    old_seen: &mut [u8],
-    new_next: &mut [u8],
-    new_out: &mut [u8],
-    new_seen: &mut [u8],
-    depth: &mut [u8],
-    reach: &mut [u16],
+    old_table: &mut TableMut<'_>,
+    new_table: &mut TableMut<'_>,
+    scratch: &mut Scratch<'_>,
     list: &mut [u8],
     text: &mut [u8],
 ) -> usize
     requires { 400 + 12 * length list.old ≤ length text.old }
     ensures { ReportsDesigns old new allowed
-        (tables_lent_of (lengths_of (table_of old_next.old old_out.old old_seen.old)) (lengths_of (table_of new_next.old new_out.old new_seen.old)))
-        (lent_of (length depth.old) (length reach.old) (length list.old)) list.new text.new result }
+        (tables_lent_of (lengths_of (held_in old_table.old)) (lengths_of (held_in new_table.old))) (lent_in scratch.old list.old)
+        list.new text.new result }
 {
-    let nothing = [0u16; 0];
     let judged = compare::compare(
-        old, new, &nothing, &nothing, allowed, old_next, old_out, old_seen, new_next, new_out,
-        new_seen, depth, reach, list,
+        old,
+        new,
+        &[],
+        &[],
+        allowed,
+        old_table,
+        new_table,
+        scratch,
+        list,
     );
-    let verdict = judged.verdict;
-    let Verdict::Same(steps) = verdict else {
-        let Verdict::Apart(pair, steps) = verdict else {
-            return report::put_refusal(Side::Both, numbers_of::verdict(verdict), text);
-        };
-        let sizes = sizes_of(old, new, allowed);
-        let facts = facts_of(old, new, allowed, judged);
-        return report::put_apart(
-            old_next, old_out, new_next, new_out, sizes, facts, pair, list, steps, text,
-        );
+    let Ok(verdict) = judged.verdict else {
+        return put_refused(Side::Both, judged.verdict, text);
     };
     let facts = facts_of(old, new, allowed, judged);
-    report::put_same(facts, list, steps, text)
+    match verdict {
+        Verdict::Same(steps) => report::put_same(facts, &list[..steps], text),
+        Verdict::Apart(pair, steps) => {
+            let tables = TablesRef {
+                sizes: sizes_of(old, new, allowed),
+                old: old_table.as_ref(),
+                new: new_table.as_ref(),
+            };
+            report::put_apart(&tables, facts, pair, &list[..steps], text)
+        }
+    }
+}
+
+// The text of the refusal that an answer is, and nothing of an answer that is none.
+fn put_refused<A: Copy>(who: Side, answer: Result<A, Refusal>, text: &mut [u8]) -> usize
+    requires { 40 ≤ length text.old }
+    ensures { IfErr answer (λ reason. Printed (refusal_text who (number_of reason)) text.new result) }
+{
+    match answer {
+        Ok(_) => 0,
+        Err(reason) => report::put_refusal(who, reason, text),
+    }
 }
 
 // What stands in front of the verdict on two designs.
@@ -174,10 +188,10 @@ fn facts_of(old: Design, new: Design, allowed: u64, judged: Judged) -> Facts
 {
     let sizes = sizes_of(old, new, allowed);
     Facts {
-        inputs: old.inputs as usize,
-        outputs: old.outputs as usize,
-        old_latches: old.latches as usize,
-        new_latches: new.latches as usize,
+        inputs: usize::from(old.inputs),
+        outputs: usize::from(old.outputs),
+        old_latches: usize::from(old.latches),
+        new_latches: usize::from(new.latches),
         pairs: sizes.old * sizes.new,
         alike: judged.alike,
         alignable: judged.alignable,

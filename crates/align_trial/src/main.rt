@@ -7,8 +7,6 @@
 
 mod lines;
 
-ghost use Rattle.std.specs.Prelude.{◌+◌, ◌*◌, ◌≤◌, ◌<◌, length};
-
 // The most steps, bytes of text, bytes of an input and bytes of all lines.
 const STEPS: usize = 32768;
 
@@ -23,39 +21,39 @@ const WHOLE: usize = 4096;
 
 const SHOWN: usize = 100;
 
+// Room for an input, its list and its text, which each input leaves to the next as it is.
+#[derive(Clone, Copy)]
+struct Room {
+    input: [u8; INPUT],
+    list: [u8; STEPS],
+    text: [u8; TEXT],
+}
+
 fn main() {
     let mut all = [0u8; LINES];
     let n = io::read_full(0, &mut all);
-    let mut input = [9u8; INPUT];
-    let mut list = [9u8; STEPS];
-    let mut text = [9u8; TEXT];
-    show_all(&all[..n], &mut input, &mut list, &mut text);
-}
-
-// Goes through the lines.
-fn show_all(all: &[u8], input: &mut [u8], list: &mut [u8], text: &mut [u8])
-    requires { 400 + 12 * length list.old ≤ length text.old }
-{
-    let mut at = 0;
-    while at < all.len() {
-        let end = lines::find(all, at + 1, b'\n');
-        show(&all[at..end], input, list, text);
-        at = end;
+    let mut room = Room {
+        input: [9; INPUT],
+        list: [9; STEPS],
+        text: [9; TEXT],
+    };
+    for line in all[..n].chunk_by(|_, next| *next != b'\n') {
+        show(line, &mut room);
     }
 }
 
 // Prints the heading and the text of one line.
-fn show(line: &[u8], input: &mut [u8], list: &mut [u8], text: &mut [u8])
-    requires { 400 + 12 * length list.old ≤ length text.old }
-{
-    let colon = lines::find(line, 0, b':');
-    io::write_all(1, &line[..colon]);
+fn show(line: &[u8], room: &mut Room) {
+    let Room { input, list, text } = room;
+    let list: &mut [u8] = list;
+    let colon = line.iter().position(|c| *c == b':').unwrap_or(line.len());
+    let (heading, digits) = line.split_at(colon);
+    io::write_all(1, heading);
     io::write_all(1, b"\n");
-    let n = lines::decode(&line[colon..], input);
-    let bytes = lines::list_bytes(line, list.len());
-    let front = lines::front(line, n);
-    let panel = lines::panel(line, &input[..n]);
-    let length = align_report::write_report(&input[front..n], panel, &mut list[..bytes], text);
+    let n = lines::decode(digits, input);
+    let bytes = lines::list_bytes(line, STEPS);
+    let (named, images) = lines::panel(line, &input[..n]);
+    let length = align_report::write_report(images, named, &mut list[..bytes], text);
     print_text(&text[..length]);
 }
 
@@ -65,8 +63,9 @@ fn print_text(text: &[u8]) {
         io::write_all(1, text);
         return;
     }
-    let end = lines::find(text, SHOWN, b'\n');
-    io::write_all(1, &text[..end]);
+    let (front, rest) = text.split_at(SHOWN);
+    io::write_all(1, front);
+    io::write_all(1, rest.split(|c| *c == b'\n').next().unwrap_or(rest));
     io::write_all(1, b"\nAND SO ON, BYTES ");
     io::print_decimal(1, text.len() as u64);
     io::write_all(1, b" SUM ");
@@ -74,21 +73,10 @@ fn print_text(text: &[u8]) {
     io::write_all(1, b"\n");
 }
 
+// The highest prime below 2 to the 32.
+const PRIME: u64 = 4294967291;
+
 // A sum that two texts hardly share: a byte counts by where it stands, so that swapped lines show.
 fn sum(text: &[u8]) -> u64 {
-    let mut sum = 0;
-    let mut i = 0;
-    while i < text.len() {
-        sum = add_byte(sum, text[i]);
-        i += 1;
-    }
-    sum
-}
-
-// The sum with one byte more, modulo the highest prime below 2 to the 32.
-fn add_byte(sum: u64, byte: u8) -> u64
-    requires { sum < 4294967291 }
-    ensures { result < 4294967291 }
-{
-    (sum * 31 + byte as u64) % 4294967291
+    text.iter().fold(0, |sum, byte| (sum % PRIME * 31 + u64::from(*byte)) % PRIME)
 }

@@ -1,66 +1,56 @@
 // What the product answers, held against what the second way finds.
 use crate::images::{BYTES, Bits};
 use crate::plain::Plain;
-use crate::watch::Nets;
+use crate::tally::{Tally, What};
+use crate::watch::Watch;
 use crate::{images, plain, recursion, show, watch};
-use image::{Answer as Read, Length};
-use simulator::{Clocked, Tabulated, TabulatedBoth};
-use writer::Written;
+use image::Reading;
+use memory::{Refusal, TableMut};
 
-// What is compared.
-pub const FAULT: usize = 0;
+// The number of a refusal; of what length_of answers to an image; three numbers more, 0 where there are fewer; and the first place at which
+// the tables, the bytes or the design are not what is expected. The three are states and vectors; next state, output and entry of a clock;
+// states of both and vectors; bytes of the image and of the slice; bytes that the header gives.
+#[derive(Clone, Copy, Default, PartialEq)]
+pub struct Answer {
+    pub refused: Option<u8>,
+    pub unmeasured: Option<u8>,
+    pub told: [usize; 3],
+    pub wrong: Option<usize>,
+}
 
-pub const TABULATE: usize = 1;
+// What the product tells, or why it refuses.
+fn told<T, F: FnOnce(T) -> [usize; 3]>(answer: Result<T, Refusal>, numbers: F) -> Answer
+    requires { F.IsAlwaysCallable numbers }
+{
+    match answer {
+        Ok(value) => Answer {
+            told: numbers(value),
+            ..Answer::default()
+        },
+        Err(reason) => refused(Some(reason.number())),
+    }
+}
 
-pub const CLOCK: usize = 2;
+fn refused(refused: Option<u8>) -> Answer {
+    Answer {
+        refused,
+        ..Answer::default()
+    }
+}
 
-pub const BOTH: usize = 3;
-
-pub const WRITE: usize = 4;
-
-pub const SPOILED: usize = 5;
-
-pub const READ: usize = 6;
-
-pub const FLIPPED: usize = 7;
-
-pub const CUT: usize = 8;
-
-// How often each number from 0 to 21 was expected for each of these, and how often of a design or an image in version 2; then the
-// disagreements.
-pub const DISAGREEMENTS: usize = 396;
-
-pub const PLACES: usize = 397;
-
-pub type Tally = [usize; PLACES];
-
-// A number where n is over the room for images, which is a fault of this program.
-const NO_ROOM: usize = 20000;
-
-// The number of a refusal or 0; three numbers more, 0 where there are fewer; and the first place at which the tables, the bytes or the
-// design are not what is expected, or their length. The three are states and vectors; next state, output and entry of a clock; states of
-// both and vectors; bytes of the image and of the slice; bytes that the header gives, or 10000 and a number, and the first place at which
-// the image written again differs.
-#[derive(Clone, Copy)]
-pub struct Answer(pub usize, pub usize, pub usize, pub usize, pub usize);
+// The number that is expected, or these three where there is none.
+fn expected(refused: Option<u8>, told: [usize; 3]) -> Answer {
+    Answer {
+        refused,
+        told: if refused.is_none() { told } else { [0; 3] },
+        ..Answer::default()
+    }
+}
 
 // Counts a comparison. A difference is printed with its design, if it is one of the first few; then the result is true.
-fn judge(what: usize, list: &Plain, found: Answer, expected: Answer, tally: &mut Tally) -> bool {
-    let place = 44 * (what % 9) + 2 * (expected.0 % 22);
-    tally[place] = std::num::wrapping_add_usize(tally[place], 1);
-    if list[plain::VERSION] == 2 {
-        tally[place + 1] = std::num::wrapping_add_usize(tally[place + 1], 1);
-    }
-    if found.0 == expected.0
-        && found.1 == expected.1
-        && found.2 == expected.2
-        && found.3 == expected.3
-        && found.4 == expected.4
-    {
-        return false;
-    }
-    tally[DISAGREEMENTS] = std::num::wrapping_add_usize(tally[DISAGREEMENTS], 1);
-    if 5 < tally[DISAGREEMENTS] {
+fn judge(what: What, list: &Plain, found: Answer, expected: Answer, tally: &mut Tally) -> bool {
+    tally.count(what, expected.refused, list.version());
+    if found == expected || !tally.disagree() {
         return false;
     }
     show::disagreement(what, found, expected);
@@ -69,319 +59,318 @@ fn judge(what: usize, list: &Plain, found: Answer, expected: Answer, tally: &mut
 }
 
 // Compares the number of a design, its tables and its clocks, and hands back the number.
-pub fn design(list: &Plain, tally: &mut Tally) -> usize {
+pub fn design(list: &Plain, tally: &mut Tally) -> Option<u8> {
     let number = recursion::number(list);
-    let fault = order::fault_of(plain::design_of(list)) as usize;
-    judge(
-        FAULT,
-        list,
-        Answer(fault, 0, 0, 0, 0),
-        Answer(number, 0, 0, 0, 0),
-        tally,
-    );
+    let fault = told(order::fault_of(list.design()), |_| [0; 3]);
+    judge(What::Fault, list, fault, expected(number, [0; 3]), tally);
     tabulation(list, number, tally);
     clocks(list, number, tally);
     number
 }
 
 // Compares what tabulating a design with watched nets answers and writes.
-fn tabulation(list: &Plain, own: usize, tally: &mut Tally) {
-    let n = watch::many(list);
-    let nets = watch::nets(list);
-    let number = watch::number(list, own, &nets, n);
-    let found = tabulated(list, nets, n, number);
-    let mut expected = Answer(number, 0, 0, 0, BYTES);
-    if number == 0 {
-        expected.1 = power(list, plain::LATCHES);
-        expected.2 = power(list, plain::INPUTS);
-    }
-    judge(TABULATE, list, found, expected, tally);
+fn tabulation(list: &Plain, own: Option<u8>, tally: &mut Tally) {
+    let side = Side::of(list, own, watch::many(list));
+    let wanted = expected(
+        side.number,
+        [power(list.latches()), power(list.inputs()), 0],
+    );
+    let mut room = TableRoom::filled();
+    let tabulated = simulator::tabulate(list.design(), side.watch.nets(), &mut room.lend());
+    let found = Answer {
+        wrong: room.first_wrong(&side, side.number),
+        ..told(tabulated, |sizes| [sizes.states, sizes.vectors, 0])
+    };
+    judge(What::Tabulate, list, found, wanted, tally);
 }
 
-// What tabulating a design with the first n watched nets answers, and how far the tables are what the recursion finds.
-fn tabulated(list: &Plain, nets: Nets, n: usize, number: usize) -> Answer {
-    if 9 < n {
-        return Answer(NO_ROOM, 0, 0, 0, 0);
-    }
-    let mut next = [7u8; BYTES];
-    let mut out = [7u8; BYTES];
-    let mut seen = [7u8; BYTES];
-    let d = plain::design_of(list);
-    let r = simulator::tabulate(d, &nets[..n], &mut next, &mut out, &mut seen);
-    let place = wrong_entry(list, &nets, n, number, &next, &out, &seen);
-    match r {
-        Tabulated::Table { states, vectors } => Answer(0, states, vectors, 0, place),
-        Tabulated::Refused(k) => Answer(k as usize, 0, 0, 0, place),
-    }
+// A design, the nets that are watched beside it, and the first number that applies to both.
+#[derive(Clone, Copy)]
+struct Side<'a> {
+    list: &'a Plain,
+    watch: Watch,
+    number: Option<u8>,
 }
 
-// How many numbers so many bits have as the size at a place says.
-fn power(list: &Plain, place: usize) -> usize {
-    1 << (plain::at(list, place) % 8)
-}
-
-// The first entry of three tables that is not what the recursion finds, or their length: 0 beyond the entries, and all 0 beside a number.
-fn wrong_entry(
-    list: &Plain,
-    nets: &Nets,
-    n: usize,
-    number: usize,
-    next: &[u8; BYTES],
-    out: &[u8; BYTES],
-    seen: &[u8; BYTES],
-) -> usize {
-    let entries = entries(list, number);
-    let mut watched = *list;
-    if number == 0 {
-        watched = watch::shown(list, nets, n);
-    }
-    for k in 0..BYTES {
-        let mut step = Answer(0, 0, 0, 0, 0);
-        let mut value = 0;
-        if k < entries {
-            step = stepped(list, k);
-            value = recursion::word(&watched, k, plain::SHOWN, 1, n);
-        }
-        if next[k] != (step.1 % 256) as u8
-            || out[k] != (step.2 % 256) as u8
-            || seen[k] != (value % 256) as u8
-        {
-            return k;
+impl Side<'_> {
+    // A design that has a number of its own, with so many nets.
+    fn of(list: &Plain, own: Option<u8>, many: usize) -> Side<'_> {
+        let watch = Watch::of(list, many);
+        Side {
+            list,
+            watch,
+            number: watch.number(list, own),
         }
     }
-    BYTES
+}
+
+// Room for the tables of a design.
+#[derive(Clone, Copy)]
+struct TableRoom {
+    next: [u8; BYTES],
+    out: [u8; BYTES],
+    seen: [u8; BYTES],
+}
+
+impl TableRoom {
+    // Room that holds other things at first.
+    fn filled() -> TableRoom {
+        TableRoom {
+            next: [7; BYTES],
+            out: [7; BYTES],
+            seen: [7; BYTES],
+        }
+    }
+
+    fn lend(&mut self) -> TableMut<'_> {
+        let TableRoom { next, out, seen } = self;
+        TableMut { next, out, seen }
+    }
+
+    // The first entry that is not what the recursion finds: 0 beyond the entries, and all 0 beside a number.
+    fn first_wrong(&self, side: &Side<'_>, number: Option<u8>) -> Option<usize> {
+        let entries = entries(side.list, number);
+        let watched = match number {
+            None => side.watch.shown(side.list),
+            Some(_) => *side.list,
+        };
+        let many = side.watch.nets().len();
+        for k in 0..BYTES {
+            let mut step = Step { next: 0, out: 0 };
+            let mut seen = 0;
+            if k < entries {
+                step = stepped(side.list, k);
+                seen = recursion::word(&watched, k, plain::SHOWN, 1, many);
+            }
+            if self.next[k] != low(step.next)
+                || self.out[k] != low(step.out)
+                || self.seen[k] != low(seen)
+            {
+                return Some(k);
+            }
+        }
+        None
+    }
+}
+
+fn low(number: usize) -> u8 {
+    (number % 256) as u8
+}
+
+// How many numbers so many bits have.
+fn power(bits: usize) -> usize {
+    1 << (bits % 8)
 }
 
 // How many entries the tables of a design have: none beside a number.
-fn entries(list: &Plain, number: usize) -> usize {
-    if number != 0 {
+fn entries(list: &Plain, number: Option<u8>) -> usize {
+    if number.is_some() {
         return 0;
     }
-    let bits = plain::at(list, plain::LATCHES) + plain::at(list, plain::INPUTS);
-    1 << (bits % 16)
+    1 << ((list.latches() + list.inputs()) % 16)
 }
 
-// The next state and the output of an entry, and the entry. The bits of all flip-flops are taken at once: those of the data where enabled,
-// those held elsewhere, and of these none that is cleared.
-fn stepped(list: &Plain, entry: usize) -> Answer {
-    let latches = plain::at(list, plain::LATCHES);
-    let outputs = plain::at(list, plain::OUTPUTS);
+// A next state and an output.
+#[derive(Clone, Copy)]
+struct Step {
+    next: usize,
+    out: usize,
+}
+
+// The next state and the output of an entry. The bits of all flip-flops are taken at once: those of the data where enabled, those held
+// elsewhere, and of these none that is cleared.
+fn stepped(list: &Plain, entry: usize) -> Step {
+    let latches = list.latches();
     let data = recursion::word(list, entry, plain::DATA, 3, latches);
     let enable = recursion::word(list, entry, plain::ENABLE, 3, latches);
     let clear = recursion::word(list, entry, plain::CLEAR, 3, latches);
-    let held = entry >> (plain::at(list, plain::INPUTS) % 8);
+    let held = entry >> (list.inputs() % 8);
     let taken = (data & enable) | (held & !enable);
-    let out = recursion::word(list, entry, plain::SHOWN, 1, outputs);
-    Answer(0, taken & !clear, out, entry, 0)
+    Step {
+        next: taken & !clear,
+        out: recursion::word(list, entry, plain::SHOWN, 1, list.outputs()),
+    }
 }
 
 // Compares every clock, and the refusal of a state and of a vector one too high; of a design with a number only these two.
-fn clocks(list: &Plain, number: usize, tally: &mut Tally) {
+fn clocks(list: &Plain, number: Option<u8>, tally: &mut Tally) {
     let entries = entries(list, number);
-    let inputs = plain::at(list, plain::INPUTS) % 8;
+    let inputs = list.inputs() % 8;
     for k in 0..entries {
         let state = k >> inputs;
-        let vector = std::num::wrapping_sub_usize(k, state << inputs);
-        clock(list, state, vector, stepped(list, k), tally);
+        let vector = k.wrapping_sub(state << inputs);
+        let step = stepped(list, k);
+        clock(
+            list,
+            state,
+            vector,
+            expected(None, [step.next, step.out, k]),
+            tally,
+        );
     }
-    let high = if number == 0 { 14 } else { number };
-    let states = power(list, plain::LATCHES);
-    clock(list, states, 0, Answer(high, 0, 0, entries, 0), tally);
-    let vectors = power(list, plain::INPUTS);
-    clock(list, 0, vectors, Answer(high, 0, 0, vectors, 0), tally);
+    let states = power(list.latches());
+    let vectors = power(list.inputs());
+    let high = expected(number.or(Some(14)), [0; 3]);
+    clock(list, states, 0, high, tally);
+    clock(list, 0, vectors, high, tally);
 }
 
 // Compares one clock.
 fn clock(list: &Plain, state: usize, vector: usize, expected: Answer, tally: &mut Tally) {
-    let found = match simulator::clock(plain::design_of(list), state, vector) {
-        Clocked::Step { next, out } => Answer(0, next as usize, out as usize, expected.3, 0),
-        Clocked::Refused(n) => Answer(n as usize, 0, 0, expected.3, 0),
-    };
-    judge(CLOCK, list, found, expected, tally);
+    let entry = expected.told[2];
+    let found = told(simulator::clock(list.design(), state, vector), |step| {
+        [usize::from(step.next), usize::from(step.out), entry]
+    });
+    judge(What::Clock, list, found, expected, tally);
 }
 
 // Compares what tabulating two designs, which have these numbers, answers and writes. Mostly as many nets of the one are watched as of the
 // other.
-pub fn both(old: &Plain, old_number: usize, new: &Plain, new_number: usize, tally: &mut Tally) {
-    let old_nets = watch::nets(old);
-    let new_nets = watch::nets(new);
+pub fn both(
+    old: &Plain,
+    old_number: Option<u8>,
+    new: &Plain,
+    new_number: Option<u8>,
+    tally: &mut Tally,
+) {
     let old_many = watch::many(old);
-    let mut new_many = old_many;
-    if new[plain::COUNT] % 8 == 3 {
-        new_many = watch::many(new);
-    }
-    let old_first = watch::number(old, old_number, &old_nets, old_many);
-    let new_first = watch::number(new, new_number, &new_nets, new_many);
-    let number = pair_number(old, new, old_first, new_first, old_many == new_many);
-    let found = tabulated_both(old, new, old_nets, old_many, new_nets, new_many, number);
-    let mut expected = Answer(number, 0, 0, 0, 2 * BYTES);
-    if number == 0 {
-        expected.1 = power(old, plain::LATCHES);
-        expected.2 = power(new, plain::LATCHES);
-        expected.3 = power(old, plain::INPUTS);
-    }
-    if judge(BOTH, old, found, expected, tally) {
+    let new_many = if new.count() % 8 == 3 {
+        watch::many(new)
+    } else {
+        old_many
+    };
+    let old_side = Side::of(old, old_number, old_many);
+    let new_side = Side::of(new, new_number, new_many);
+    let number = pair_number(&old_side, &new_side);
+    let wanted = expected(
+        number,
+        [
+            power(old.latches()),
+            power(new.latches()),
+            power(old.inputs()),
+        ],
+    );
+    let found = tabulated_both(&old_side, &new_side, number);
+    if judge(What::Both, old, found, wanted, tally) {
         show::numbers(new);
     }
 }
 
-// The number of two designs of which each with its watched nets has a number, 0, 3, 5, 9 or 21: 10 and 21 of the pair come behind 9.
-fn pair_number(
-    old: &Plain,
-    new: &Plain,
-    old_first: usize,
-    new_first: usize,
-    as_many: bool,
-) -> usize {
-    let mut number = old_first;
-    if old_first == 0 || (new_first != 0 && new_first < old_first) {
-        number = new_first;
-    }
-    if number != 0 && number < 10 {
+// The number of two designs of which each with its watched nets has a number, 3, 5, 9 or 21, or none: 10 and 21 of the pair come behind 9.
+fn pair_number(old: &Side<'_>, new: &Side<'_>) -> Option<u8> {
+    let number = match (old.number, new.number) {
+        (Some(a), Some(b)) => Some(a.min(b)),
+        (a, b) => a.or(b),
+    };
+    if number.is_some_and(|number| number < 10) {
         return number;
     }
-    if old[plain::INPUTS] != new[plain::INPUTS] || old[plain::OUTPUTS] != new[plain::OUTPUTS] {
-        return 10;
+    if old.list.inputs() != new.list.inputs() || old.list.outputs() != new.list.outputs() {
+        return Some(10);
     }
-    if !as_many {
-        return 21;
+    if old.watch.nets().len() != new.watch.nets().len() {
+        return Some(21);
     }
     number
 }
 
 // What tabulating two designs answers, and how far the tables of each are what the recursion finds.
-fn tabulated_both(
-    old: &Plain,
-    new: &Plain,
-    nets0: Nets,
-    many0: usize,
-    nets1: Nets,
-    many1: usize,
-    number: usize,
-) -> Answer {
-    if 9 < many0 {
-        return Answer(NO_ROOM, 0, 0, 0, 0);
-    }
-    if 9 < many1 {
-        return Answer(NO_ROOM, 0, 0, 0, 0);
-    }
-    let mut next0 = [7u8; BYTES];
-    let mut out0 = [7u8; BYTES];
-    let mut seen0 = [7u8; BYTES];
-    let mut next1 = [7u8; BYTES];
-    let mut out1 = [7u8; BYTES];
-    let mut seen1 = [7u8; BYTES];
-    let r = simulator::tabulate_both(
-        plain::design_of(old),
-        plain::design_of(new),
-        &nets0[..many0],
-        &nets1[..many1],
-        &mut next0,
-        &mut out0,
-        &mut seen0,
-        &mut next1,
-        &mut out1,
-        &mut seen1,
+fn tabulated_both(old: &Side<'_>, new: &Side<'_>, number: Option<u8>) -> Answer {
+    let mut old_room = TableRoom::filled();
+    let mut new_room = TableRoom::filled();
+    let tabulated = simulator::tabulate_both(
+        old.list.design(),
+        new.list.design(),
+        old.watch.nets(),
+        new.watch.nets(),
+        &mut old_room.lend(),
+        &mut new_room.lend(),
     );
-    let right0 = wrong_entry(old, &nets0, many0, number, &next0, &out0, &seen0);
-    let right1 = wrong_entry(new, &nets1, many1, number, &next1, &out1, &seen1);
-    let place = std::num::wrapping_add_usize(right0, right1);
-    match r {
-        TabulatedBoth::Both { old, new, vectors } => Answer(0, old, new, vectors, place),
-        TabulatedBoth::Refused(n) => Answer(n as usize, 0, 0, 0, place),
+    let new_wrong = new_room.first_wrong(new, number);
+    Answer {
+        wrong: old_room.first_wrong(old, number).or(new_wrong),
+        ..told(tabulated, |sizes| [sizes.old, sizes.new, sizes.vectors])
     }
 }
 
 // Writes a design into a slice of n bytes both ways, and compares the answer and the slice with the bytes behind it, which stay.
-pub fn writing(what: usize, list: &Plain, n: usize, tally: &mut Tally) {
-    if BYTES < n {
-        return;
-    }
-    let length = (images::end(list) + 7) / 8;
-    let mut number = recursion::number(list);
-    if number == 0 && n < length {
-        number = 12;
-    }
+pub fn writing(what: What, list: &Plain, n: usize, tally: &mut Tally) {
+    let length = images::bytes(list);
+    let number = recursion::number(list).or((n < length).then_some(12));
     let mut wanted = [165u8; BYTES];
-    let bits = if number == 0 {
-        images::put(list)
-    } else {
-        [0u8; images::BITS]
-    };
-    images::pack(&bits, n, &mut wanted);
     let mut room = [165u8; BYTES];
-    let r = writer::write(plain::design_of(list), &mut room[..n]);
-    let place = images::first_difference(&wanted, &room);
-    let found = match r {
-        Written::Bytes(k) => Answer(0, k, n, 0, place),
-        Written::Refused(k) => Answer(k as usize, length, n, 0, place),
+    let (Some(image), Some(slice)) = (wanted.get_mut(..n), room.get_mut(..n)) else {
+        return;
     };
-    judge(
-        what,
-        list,
-        found,
-        Answer(number, length, n, 0, BYTES),
-        tally,
-    );
+    let bits = match number {
+        None => Bits::of(list),
+        Some(_) => Bits::zero(),
+    };
+    bits.pack(image);
+    let found = told(writer::write(list.design(), slice), |length| [length, n, 0]);
+    let found = Answer {
+        wrong: images::first_difference(&wanted, &room),
+        ..found
+    };
+    judge(what, list, found, expected(number, [length, n, 0]), tally);
 }
 
 // Reads and measures the first n bytes both ways. The design beside a refusal is empty.
-pub fn reading(what: usize, bits: &Bits, n: usize, tally: &mut Tally) {
-    let taken = images::take(bits);
+pub fn reading(what: What, bits: &Bits, n: usize, tally: &mut Tally) {
+    let taken = bits.list();
     let number = images::number(bits, n, &taken);
-    let mut length = std::num::wrapping_add_usize(10000, number);
-    if number == 0 || 4 < number {
-        length = (images::end(&taken) + 7) / 8;
-    }
+    let unmeasured = number.filter(|number| *number <= 4);
+    let length = if unmeasured.is_none() {
+        images::bytes(&taken)
+    } else {
+        0
+    };
     let mut list = taken;
-    if number != 0 {
-        list = plain::empty();
-        list[plain::VERSION] = taken[plain::VERSION];
+    if number.is_some() {
+        list = Plain::empty();
+        list.put(plain::VERSION, taken.version());
     }
-    let expected = Answer(number, length, BYTES, 0, plain::NUMBERS);
-    reads(what, bits, n, &list, expected, tally);
+    let wanted = Answer {
+        refused: number,
+        unmeasured,
+        told: [length, 0, 0],
+        wrong: None,
+    };
+    reads(what, bits, n, &list, wanted, tally);
 }
 
 // Compares what the product answers to the first n bytes, the design beside it, and what it writes again of an accepted design.
-pub fn reads(
-    what: usize,
-    bits: &Bits,
-    n: usize,
-    list: &Plain,
-    expected: Answer,
-    tally: &mut Tally,
-) {
-    if judge(what, list, read(bits, n, list), expected, tally) {
-        show::bytes(bits, n);
+pub fn reads(what: What, bits: &Bits, n: usize, list: &Plain, expected: Answer, tally: &mut Tally) {
+    let mut room = [0u8; BYTES];
+    let Some(image) = room.get_mut(..n) else {
+        return;
+    };
+    bits.pack(image);
+    if judge(what, list, read(image, list), expected, tally) {
+        show::bytes(image);
     }
 }
 
-// What the product answers to the first n bytes: the number, the length, or 10000 and a number, and where the bytes that it writes of an
-// accepted design first differ from these.
-fn read(bits: &Bits, n: usize, list: &Plain) -> Answer {
-    if BYTES < n {
-        return Answer(NO_ROOM, 0, 0, 0, 0);
+// What the product answers to an image: the number, the length, and where its design, or the bytes that it writes of an accepted one, first
+// differ from what is expected.
+fn read(image: &[u8], list: &Plain) -> Answer {
+    let measured = told(image::length_of(image), |length| [length, 0, 0]);
+    let reading = image::read(image);
+    let answer = told(reading.answer, |_| [0; 3]);
+    let wrong = Plain::of(reading.design).first_difference(list);
+    Answer {
+        refused: answer.refused,
+        unmeasured: measured.refused,
+        wrong: wrong.or(rewritten(reading, image)),
+        ..measured
     }
-    let mut bytes = [0u8; BYTES];
-    images::pack(bits, n, &mut bytes);
-    let length = match image::length_of(&bytes[..n]) {
-        Length::Bytes(k) => k,
-        Length::Refused(k) => 10000 + k as usize,
-    };
-    let r = image::read(&bytes[..n]);
-    let d = r.design;
-    let place = plain::first_difference(&plain::list_of(d), list);
-    let mut again = [0u8; BYTES];
-    writer::write(d, &mut again[..n]);
-    let a = r.answer;
-    match a {
-        Read::Accepted => Answer(
-            0,
-            length,
-            images::first_difference(&again, &bytes),
-            0,
-            place,
-        ),
-        Read::Refused(k) => Answer(k as usize, length, BYTES, 0, place),
-    }
+}
+
+// Where the bytes that are written of an accepted design first differ from its image.
+fn rewritten(reading: Reading, image: &[u8]) -> Option<usize> {
+    reading.answer.ok()?;
+    let mut room = [0u8; BYTES];
+    let again = room.get_mut(..image.len())?;
+    let _ = writer::write(reading.design, again);
+    images::first_difference(again, image)
 }

@@ -3,75 +3,88 @@ ghost use Rattle.std.specs.Prelude.{◌≤◌};
 
 use crate::plain;
 use crate::plain::Plain;
-use std::num::{wrapping_add_usize, wrapping_sub_usize};
 
-// The next number of the sequence, below n, or 0 where n is 0: xorshift on 32 bits, of which the upper half is used.
-pub fn below(random: &mut u32, n: usize) -> usize
-    ensures { result ≤ n }
-{
-    let x = *random;
-    let a = x ^ (x << 13);
-    let b = a ^ (a >> 17);
-    *random = b ^ (b << 5);
-    if n == 0 {
-        return 0;
+// The sequence: xorshift on 32 bits, of which the upper half is used.
+#[derive(Clone, Copy)]
+pub struct Chance {
+    pub state: u32,
+}
+
+impl Chance {
+    // The next number of the sequence, below n, or 0 where n is 0.
+    pub fn below(&mut self, n: usize) -> usize
+        ensures { result ≤ n }
+    {
+        let x = self.state;
+        let a = x ^ (x << 13);
+        let b = a ^ (a >> 17);
+        self.state = b ^ (b << 5);
+        (x as usize / 65536).checked_rem(n).unwrap_or(0)
     }
-    x as usize / 65536 % n
+
+    // Whether the next number below n is 0.
+    pub fn one_in(&mut self, n: usize) -> bool {
+        self.below(n) == 0
+    }
 }
 
 // Draws the sizes: inputs below n, flip-flops below n + 1, outputs below 9, and cells below a number.
-pub fn sizes(random: &mut u32, n: u8, cells: u8, list: &mut Plain) {
-    plain::put(list, plain::INPUTS, below(random, n as usize));
-    plain::put(list, plain::LATCHES, below(random, n as usize + 1));
-    plain::put(list, plain::OUTPUTS, below(random, 9));
-    plain::put(list, plain::COUNT, below(random, cells as usize));
+pub fn sizes(chance: &mut Chance, n: u8, cells: u8, list: &mut Plain) {
+    list.put(plain::INPUTS, chance.below(usize::from(n)));
+    list.put(plain::LATCHES, chance.below(usize::from(n) + 1));
+    list.put(plain::OUTPUTS, chance.below(9));
+    list.put(plain::COUNT, chance.below(usize::from(cells)));
 }
 
 // Draws cells and nets for the sizes of a list that is empty behind them, and numbers up to `litter` beyond the sizes, where they count for
 // nothing. Without loops a cell reads a cell only if that has a lower number, some bits of both numbers being turned, so that cells read
 // earlier and later ones. All enable and clear nets are left at 1 and 0 in a third of the designs, and half of them in another third.
-pub fn fill(random: &mut u32, loops: bool, litter: usize, list: &mut Plain) {
-    let turned = below(random, 512);
-    let simple = below(random, 3);
-    list[plain::VERSION] = 2;
+pub fn fill(chance: &mut Chance, loops: bool, litter: usize, list: &mut Plain) {
+    let nets = Nets {
+        loops,
+        turned: chance.below(512),
+        simple: chance.below(3),
+    };
+    list.put(plain::VERSION, 2);
     for place in plain::CELLS..plain::NUMBERS {
-        let number = match plain::width(list, place) {
-            0 => wrapping_add_usize(plain::at(list, place), below(random, litter)),
-            3 => below(random, 8),
-            _ => net(random, loops, turned, simple, list, place),
+        let number = match list.width(place) {
+            0 => list.at(place).wrapping_add(chance.below(litter)),
+            3 => chance.below(8),
+            _ => nets.net(chance, list, place),
         };
-        plain::put(list, place, number);
+        list.put(place, number);
     }
-    list[plain::VERSION] = plain::version(list);
+    list.put(plain::VERSION, list.lowest_version());
 }
 
-// A net for a place of a list: any net, or for a cell one that makes no loop; 0 for the second net of a kind that reads one. An enable or
-// clear net stays what it is in `simple` of two cases.
-fn net(
-    random: &mut u32,
+// How nets are drawn: whether there may be loops; else which bits of two cells' numbers are turned before the lower one is taken; and in how
+// many of two cases an enable or clear net stays what it is.
+#[derive(Clone, Copy)]
+struct Nets {
     loops: bool,
     turned: usize,
     simple: usize,
-    list: &Plain,
-    place: usize,
-) -> usize {
-    let first = plain::first_cell(list);
-    let net = below(random, first + plain::at(list, plain::COUNT));
-    if plain::DATA <= place {
-        let control = place < plain::SHOWN && place % 3 != plain::DATA % 3;
-        if control && below(random, 2) < simple {
-            return plain::at(list, place);
+}
+
+impl Nets {
+    // A net for a place of a list: any net, or for a cell one that makes no loop; 0 for the second net of a kind that reads one.
+    fn net(&self, chance: &mut Chance, list: &Plain, place: usize) -> usize {
+        let first = list.first_cell();
+        let net = chance.below(list.nets());
+        if plain::DATA <= place {
+            let control = place < plain::SHOWN && place % 3 != plain::DATA % 3;
+            let kept = control && chance.below(2) < self.simple;
+            return if kept { list.at(place) } else { net };
         }
-        return net;
+        if place % 3 == (plain::CELLS + 2) % 3 && list.at(place.wrapping_sub(2)) < 2 {
+            return 0;
+        }
+        let cell = place.wrapping_sub(plain::CELLS) / 3;
+        if self.loops || net < first || (net - first) ^ self.turned < cell ^ self.turned {
+            return net;
+        }
+        chance.below(first)
     }
-    if place % 3 == (plain::CELLS + 2) % 3 && plain::at(list, wrapping_sub_usize(place, 2)) < 2 {
-        return 0;
-    }
-    let cell = wrapping_sub_usize(place, plain::CELLS) / 3;
-    if loops || net < first || (net - first) ^ turned < cell ^ turned {
-        return net;
-    }
-    below(random, first)
 }
 
 // A design with the number at a place spoiled in one of eight ways: a size over its limit, another kind, a net of a cell or one too high,
@@ -83,53 +96,60 @@ pub fn spoiled(list: &Plain, place: usize, way: usize) -> Plain {
         plain::LATCHES => 8,
         plain::OUTPUTS => 9,
         plain::COUNT => 257,
-        _ => plain::first_cell(list),
+        _ => list.first_cell(),
     };
-    let kind = plain::width(list, place) == 3;
+    let kind = list.width(place) == 3;
     let number = if kind || (plain::DATA <= place && way < 2) {
         way
     } else {
-        wrapping_add_usize(lowest, way)
+        lowest.wrapping_add(way)
     };
-    plain::put(&mut changed, place, number);
-    plain::list_of(plain::design_of(&changed))
+    changed.put(place, number);
+    Plain::of(changed.design())
 }
 
 // A chain: each cell reads the next, and its value changes with that of the next. The last reads input 0, or the first cell where the
 // chain is closed; two flip-flops and an output read the first, one as its enable net. Of the closed ones some half are dead: input 1 is
 // read there instead.
-pub fn chain(random: &mut u32, count: u16, closed: bool) -> Plain {
-    let mut list = [0u16; plain::NUMBERS];
-    list[plain::VERSION] = 2;
-    list[plain::INPUTS] = 2;
-    list[plain::LATCHES] = 2;
-    list[plain::OUTPUTS] = 3;
-    list[plain::COUNT] = count;
-    for i in 0..count as usize {
-        let kind = below(random, 8);
-        let drawn = below(random, 6);
+pub fn chain(chance: &mut Chance, count: u16, closed: bool) -> Plain {
+    let count = usize::from(count);
+    let mut list = Plain::zero();
+    for (place, number) in [
+        (plain::VERSION, 2),
+        (plain::INPUTS, 2),
+        (plain::LATCHES, 2),
+        (plain::OUTPUTS, 3),
+        (plain::COUNT, count),
+    ] {
+        list.put(place, number);
+    }
+    for i in 0..count {
+        let kind = chance.below(8);
+        let drawn = chance.below(6);
         let other = match kind {
             2 | 5 => 1,
             4 | 7 => drawn,
             _ => 0,
         };
-        plain::put(&mut list, 5 + 3 * i, kind);
-        plain::put(&mut list, 6 + 3 * i, 7 + i);
-        plain::put(&mut list, 7 + 3 * i, other);
+        let place = plain::CELLS + 3 * i;
+        list.put(place, kind);
+        list.put(place + 1, 7 + i);
+        list.put(place + 2, other);
     }
-    plain::put(
-        &mut list,
-        3 + 3 * count as usize,
-        if closed { 6 } else { 2 },
-    );
-    let dead = below(random, 2) == 0;
+    let last = plain::CELLS + 3 * count - 3;
+    list.put(last + 1, if closed { 6 } else { 2 });
+    let dead = chance.one_in(2);
     let end = if closed && dead { 3 } else { 6 };
-    list[plain::DATA] = 3;
-    list[plain::ENABLE] = end;
-    list[plain::CLEAR] = 5;
-    list[plain::DATA + 3] = end;
-    list[plain::ENABLE + 3] = 1;
-    list[plain::SHOWN] = end;
-    list[plain::SHOWN + 2] = 5;
+    for (place, net) in [
+        (plain::DATA, 3),
+        (plain::ENABLE, end),
+        (plain::CLEAR, 5),
+        (plain::DATA + 3, end),
+        (plain::ENABLE + 3, 1),
+        (plain::SHOWN, end),
+        (plain::SHOWN + 2, 5),
+    ] {
+        list.put(place, net);
+    }
     list
 }

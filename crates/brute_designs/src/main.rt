@@ -9,62 +9,63 @@ mod images;
 mod plain;
 mod recursion;
 mod show;
+mod tally;
 mod watch;
 
 ghost use Rattle.std.specs.Prelude.{◌≤◌};
 
-use crate::compare::{Answer, Tally};
-use crate::draw::below;
-use crate::images::Bits;
-use crate::plain::Plain;
-use std::num::wrapping_sub_usize;
+use compare::Answer;
+use draw::Chance;
+use images::Bits;
+use plain::Plain;
+use tally::{Tally, What};
 
 // Compares two pairs of designs, an image and a chain a round, and prints what was compared. The chains have from 1 to 256 cells, and are
 // open and then closed.
 fn main() {
-    let mut tally = [0usize; compare::PLACES];
-    let mut random: u32 = 2463534242;
+    let mut tally = Tally::new();
+    let mut chance = Chance { state: 2463534242 };
     for round in 0..512 {
-        pair(&mut random, &mut tally);
-        pair(&mut random, &mut tally);
-        drawn_image(&mut random, round, &mut tally);
-        let chain = draw::chain(&mut random, (round % 256) as u16 + 1, 256 <= round);
+        pair(&mut chance, &mut tally);
+        pair(&mut chance, &mut tally);
+        drawn_image(&mut chance, round, &mut tally);
+        let chain = draw::chain(&mut chance, (round % 256) as u16 + 1, 256 <= round);
         compare::design(&chain, &mut tally);
     }
-    show::counts(&tally);
+    tally.print();
 }
 
 // Two designs of few cells, mostly with the same inputs and outputs.
-fn pair(random: &mut u32, tally: &mut Tally) {
-    let mut old = plain::empty();
-    draw::sizes(random, 5, 17, &mut old);
-    let mut new = plain::empty();
-    draw::sizes(random, 5, 17, &mut new);
-    let kept = below(random, 8);
+fn pair(chance: &mut Chance, tally: &mut Tally) {
+    let mut old = Plain::empty();
+    draw::sizes(chance, 5, 17, &mut old);
+    let mut new = Plain::empty();
+    draw::sizes(chance, 5, 17, &mut new);
+    let kept = chance.below(8);
     if kept != 0 {
-        new[plain::INPUTS] = old[plain::INPUTS];
+        new.put(plain::INPUTS, old.inputs());
     }
     if kept != 1 {
-        new[plain::OUTPUTS] = old[plain::OUTPUTS];
+        new.put(plain::OUTPUTS, old.outputs());
     }
-    let old = any_design(random, &old);
-    let new = any_design(random, &new);
+    let old = any_design(chance, &old);
+    let new = any_design(chance, &new);
     let old_number = compare::design(&old, tally);
     let new_number = compare::design(&new, tally);
     compare::both(&old, old_number, &new, new_number, tally);
 }
 
 // A design of the sizes of a list: some have loops, some are spoiled, and half hold numbers beyond their sizes.
-fn any_design(random: &mut u32, sizes: &Plain) -> Plain {
+fn any_design(chance: &mut Chance, sizes: &Plain) -> Plain {
     let mut list = *sizes;
-    let loops = below(random, 8) == 0;
-    let litter = 600 * below(random, 2);
-    draw::fill(random, loops, litter, &mut list);
-    let way = below(random, 8);
-    let place = match below(random, 9) {
-        0 => plain::INPUTS + below(random, 4),
-        1 => plain::CELLS + below(random, 3 * plain::at(&list, plain::COUNT)),
-        2 => plain::DATA + below(random, 29),
+    let loops = chance.one_in(8);
+    let litter = 600 * chance.below(2);
+    draw::fill(chance, loops, litter, &mut list);
+    let way = chance.below(8);
+    let place = match chance.below(9) {
+        0 => plain::INPUTS + chance.below(4),
+        1 => plain::CELLS + chance.below(3 * list.count()),
+        2 => plain::DATA + chance.below(29),
         _ => plain::NUMBERS,
     };
     draw::spoiled(&list, place, way)
@@ -73,34 +74,36 @@ fn any_design(random: &mut u32, sizes: &Plain) -> Plain {
 // Writes a design into some slices, with and without numbers beyond its sizes, and reads its image, whole and damaged. Half of the images
 // that are damaged are in version 2 whether or not version 1 can hold them. The first rounds have as many cells as their number says, the
 // others few; of these every second gets a loop before it is spoiled.
-fn drawn_image(random: &mut u32, round: usize, tally: &mut Tally) {
-    let mut list = plain::empty();
-    draw::sizes(random, 7, 7, &mut list);
+fn drawn_image(chance: &mut Chance, round: usize, tally: &mut Tally) {
+    let mut list = Plain::empty();
+    draw::sizes(chance, 7, 7, &mut list);
     let small = 257 <= round;
     if !small {
-        plain::put(&mut list, plain::COUNT, round);
+        list.put(plain::COUNT, round);
     }
     let mut littered = list;
-    let mut same = *random;
+    let mut same = *chance;
     draw::fill(&mut same, false, 600, &mut littered);
-    draw::fill(random, false, 0, &mut list);
+    draw::fill(chance, false, 0, &mut list);
     rooms(&list, tally);
     rooms(&littered, tally);
-    let mut bits = images::put(&list);
-    let n = (images::end(&list) + 7) / 8;
-    let whole = Answer(0, n, images::BYTES, 0, plain::NUMBERS);
-    compare::reads(compare::READ, &bits, n, &list, whole, tally);
-    if below(random, 2) == 0 {
-        list[plain::VERSION] = 2;
-        bits = images::put(&list);
+    let mut bits = Bits::of(&list);
+    let n = images::bytes(&list);
+    let whole = Answer {
+        told: [n, 0, 0],
+        ..Answer::default()
+    };
+    compare::reads(What::Read, &bits, n, &list, whole, tally);
+    if chance.one_in(2) {
+        list.put(plain::VERSION, 2);
+        bits = Bits::of(&list);
     }
-    let n = (images::end(&list) + 7) / 8;
-    flips(random, &mut bits, n, small, tally);
+    let n = images::bytes(&list);
+    flips(chance, &mut bits, n, small, tally);
     lengths(&mut bits, n, tally);
     if small {
         if round % 2 == 0 {
-            let first = plain::first_cell(&list);
-            plain::put(&mut list, plain::CELLS + 1, first);
+            list.put(plain::CELLS + 1, list.first_cell());
         }
         spoils(&list, tally);
     }
@@ -108,36 +111,27 @@ fn drawn_image(random: &mut u32, round: usize, tally: &mut Tally) {
 
 // Writes a design into slices that are too short, just long enough, and longer.
 fn rooms(list: &Plain, tally: &mut Tally) {
-    let n = (images::end(list) + 7) / 8;
-    compare::writing(compare::WRITE, list, 0, tally);
-    compare::writing(compare::WRITE, list, wrapping_sub_usize(n, 1), tally);
-    compare::writing(compare::WRITE, list, n, tally);
-    compare::writing(compare::WRITE, list, n + 1, tally);
-    compare::writing(compare::WRITE, list, images::BYTES, tally);
+    let n = images::bytes(list);
+    for length in [0, n.wrapping_sub(1), n, n + 1, images::BYTES] {
+        compare::writing(What::Write, list, length, tally);
+    }
 }
 
 // Reads an image with each bit flipped by itself, or twenty drawn ones, and with a drawn one besides. Each change is taken back.
-fn flips(random: &mut u32, bits: &mut Bits, n: usize, each: bool, tally: &mut Tally)
+fn flips(chance: &mut Chance, bits: &mut Bits, n: usize, each: bool, tally: &mut Tally)
     requires { n ≤ 500000 }
 {
     for k in 0..8 * n {
         if each || k < 20 {
-            let place = if each { k } else { below(random, 8 * n) };
-            let other = below(random, 8 * n);
-            flip(bits, place);
-            compare::reading(compare::FLIPPED, bits, n, tally);
-            flip(bits, other);
-            compare::reading(compare::FLIPPED, bits, n, tally);
-            flip(bits, other);
-            flip(bits, place);
+            let place = if each { k } else { chance.below(8 * n) };
+            let other = chance.below(8 * n);
+            bits.flip(place);
+            compare::reading(What::Flipped, bits, n, tally);
+            bits.flip(other);
+            compare::reading(What::Flipped, bits, n, tally);
+            bits.flip(other);
+            bits.flip(place);
         }
-    }
-}
-
-// Flips one bit.
-fn flip(bits: &mut Bits, place: usize) {
-    if place < images::BITS {
-        bits[place] = bits[place] ^ 1;
     }
 }
 
@@ -145,10 +139,10 @@ fn flip(bits: &mut Bits, place: usize) {
 fn lengths(bits: &mut Bits, n: usize, tally: &mut Tally)
     requires { n ≤ 500000 }
 {
-    compare::reading(compare::CUT, bits, n + 1, tally);
-    flip(bits, 8 * n + 1);
+    compare::reading(What::Cut, bits, n + 1, tally);
+    bits.flip(8 * n + 1);
     for k in 0..n + 2 {
-        compare::reading(compare::CUT, bits, k, tally);
+        compare::reading(What::Cut, bits, k, tally);
     }
 }
 
@@ -158,11 +152,11 @@ fn spoils(list: &Plain, tally: &mut Tally) {
     for way in 8..8 * plain::NUMBERS {
         let place = way / 8;
         let latch = plain::DATA <= place && place < plain::SHOWN;
-        if latch || plain::width(list, place) != 0 {
+        if latch || list.width(place) != 0 {
             let spoiled = draw::spoiled(list, place, way % 8);
-            let n = (images::end(&spoiled) + 7) / 8;
-            compare::writing(compare::SPOILED, &spoiled, n, tally);
-            compare::writing(compare::SPOILED, &spoiled, wrapping_sub_usize(n, 1), tally);
+            let n = images::bytes(&spoiled);
+            compare::writing(What::Spoiled, &spoiled, n, tally);
+            compare::writing(What::Spoiled, &spoiled, n.wrapping_sub(1), tally);
         }
     }
 }

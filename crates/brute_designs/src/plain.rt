@@ -32,166 +32,198 @@ pub const SHOWN: usize = 794;
 
 pub const NUMBERS: usize = 802;
 
-pub type Plain = [u16; NUMBERS];
-
-// The empty design: enable net 1, and 0 elsewhere. So the reader leaves what is beyond the sizes, too.
-pub fn empty() -> Plain {
-    let mut list = [0u16; NUMBERS];
-    for k in 0..7 {
-        list[ENABLE + 3 * k] = 1;
-    }
-    list
-}
-
-// The number at a place, 0 past the end.
-pub fn at(list: &Plain, place: usize) -> usize
-    ensures { result ≤ 65535 }
-{
-    if NUMBERS <= place {
-        return 0;
-    }
-    wide(list[place])
-}
-
-fn wide(number: u16) -> usize
-    ensures { result ≤ 65535 }
-{
-    number as usize
-}
-
-// Sets the number at a place, if there is such a place.
-pub fn put(list: &mut Plain, place: usize, number: usize) {
-    if place < NUMBERS {
-        list[place] = (number % 65536) as u16;
-    }
-}
-
-// The first net that a cell drives.
-pub fn first_cell(list: &Plain) -> usize
-    ensures { result ≤ 131072 }
-{
-    2 + at(list, INPUTS) + at(list, LATCHES)
-}
-
-// The lowest version that can hold a design: 1 where each flip-flop has enable net 1 and clear net 0.
-pub fn version(list: &Plain) -> u16 {
-    for k in 0..7 {
-        let plain = list[ENABLE + 3 * k] == 1 && list[CLEAR + 3 * k] == 0;
-        if k < at(list, LATCHES) && !plain {
-            return 2;
-        }
-    }
-    1
-}
-
-// How many bits the number at a place takes in an image of its version: 0 where it has no field.
-pub fn width(list: &Plain, place: usize) -> usize
-    ensures { result ≤ 9 }
-{
-    if place < COUNT {
-        return 4;
-    }
-    if place == COUNT {
-        return 9;
-    }
-    let used = if place < DATA {
-        place < CELLS + 3 * at(list, COUNT)
-    } else if place < SHOWN {
-        place < DATA + 3 * at(list, LATCHES) && (place % 3 == DATA % 3 || list[VERSION] == 2)
-    } else {
-        place < SHOWN + at(list, OUTPUTS)
-    };
-    if !used {
-        return 0;
-    }
-    if place < DATA && place % 3 == CELLS % 3 {
-        return 3;
-    }
-    9
-}
-
-// The first place behind the version at which two lists differ, or their length.
-pub fn first_difference(one: &Plain, other: &Plain) -> usize {
-    for place in INPUTS..NUMBERS {
-        if one[place] != other[place] {
-            return place;
-        }
-    }
-    NUMBERS
-}
-
-// The list of a design in memory, with the version that its image has.
-pub fn list_of(d: Design) -> Plain {
-    let mut list = [0u16; NUMBERS];
-    list[INPUTS] = d.inputs as u16;
-    list[LATCHES] = d.latches as u16;
-    list[OUTPUTS] = d.outputs as u16;
-    list[COUNT] = d.count;
-    for i in 0..256 {
-        let cell = d.cells[i];
-        let gate = cell.gate;
-        let numbers = numbers_of(gate);
-        list[CELLS + 3 * i] = numbers.0;
-        list[CELLS + 3 * i + 1] = numbers.1;
-        list[CELLS + 3 * i + 2] = numbers.2;
-        if i < 7 {
-            list[DATA + 3 * i] = d.data[i];
-            list[ENABLE + 3 * i] = d.enable[i];
-            list[CLEAR + 3 * i] = d.clear[i];
-        }
-        if i < 8 {
-            list[SHOWN + i] = d.shown[i];
-        }
-    }
-    list[VERSION] = version(&list);
-    list
-}
-
-// A gate's kind, and its nets.
 #[derive(Clone, Copy)]
-struct Numbers(u16, u16, u16);
+pub struct Plain {
+    numbers: [u16; NUMBERS],
+}
+
+impl Plain {
+    pub fn zero() -> Plain {
+        Plain {
+            numbers: [0; NUMBERS],
+        }
+    }
+
+    // The empty design: enable net 1, and 0 elsewhere. So the reader leaves what is beyond the sizes, too.
+    pub fn empty() -> Plain {
+        let mut list = Plain::zero();
+        for k in 0..7 {
+            list.put(ENABLE + 3 * k, 1);
+        }
+        list
+    }
+
+    // The number at a place, 0 past the end.
+    pub fn at(&self, place: usize) -> usize
+        ensures { result ≤ 65535 }
+    {
+        match self.numbers.get(place) {
+            Some(number) => usize::from(*number),
+            None => 0,
+        }
+    }
+
+    // Sets the number at a place, if there is such a place.
+    pub fn put(&mut self, place: usize, number: usize) {
+        if let Some(old) = self.numbers.get_mut(place) {
+            *old = (number % 65536) as u16;
+        }
+    }
+
+    pub fn inputs(&self) -> usize
+        ensures { result ≤ 65535 }
+    {
+        self.at(INPUTS)
+    }
+
+    pub fn latches(&self) -> usize
+        ensures { result ≤ 65535 }
+    {
+        self.at(LATCHES)
+    }
+
+    pub fn outputs(&self) -> usize
+        ensures { result ≤ 65535 }
+    {
+        self.at(OUTPUTS)
+    }
+
+    pub fn count(&self) -> usize
+        ensures { result ≤ 65535 }
+    {
+        self.at(COUNT)
+    }
+
+    pub fn version(&self) -> usize {
+        self.at(VERSION)
+    }
+
+    // The first net that a cell drives.
+    pub fn first_cell(&self) -> usize
+        ensures { result ≤ 131072 }
+    {
+        2 + self.inputs() + self.latches()
+    }
+
+    // How many nets there are.
+    pub fn nets(&self) -> usize
+        ensures { result ≤ 196607 }
+    {
+        self.first_cell() + self.count()
+    }
+
+    // The lowest version that can hold a design: 1 where each flip-flop has enable net 1 and clear net 0.
+    pub fn lowest_version(&self) -> usize {
+        for k in 0..7 {
+            let plain = self.at(ENABLE + 3 * k) == 1 && self.at(CLEAR + 3 * k) == 0;
+            if k < self.latches() && !plain {
+                return 2;
+            }
+        }
+        1
+    }
+
+    // How many bits the number at a place takes in an image of its version: 0 where it has no field.
+    pub fn width(&self, place: usize) -> usize
+        ensures { result ≤ 9 }
+    {
+        if place < COUNT {
+            return 4;
+        }
+        if place == COUNT {
+            return 9;
+        }
+        let used = if place < DATA {
+            place < CELLS + 3 * self.count()
+        } else if place < SHOWN {
+            place < DATA + 3 * self.latches() && (place % 3 == DATA % 3 || self.version() == 2)
+        } else {
+            place < SHOWN + self.outputs()
+        };
+        if !used {
+            return 0;
+        }
+        if place < DATA && place % 3 == CELLS % 3 {
+            return 3;
+        }
+        9
+    }
+
+    // The first place behind the version at which two lists differ.
+    pub fn first_difference(&self, other: &Plain) -> Option<usize> {
+        (INPUTS..NUMBERS).find(|place| self.at(*place) != other.at(*place))
+    }
+
+    // The list of a design in memory, with the version that its image has.
+    pub fn of(d: Design) -> Plain {
+        let mut numbers = [0; NUMBERS];
+        numbers[INPUTS] = u16::from(d.inputs);
+        numbers[LATCHES] = u16::from(d.latches);
+        numbers[OUTPUTS] = u16::from(d.outputs);
+        numbers[COUNT] = d.count;
+        let cells = d.cells;
+        for (cell, fields) in cells
+            .iter()
+            .zip(numbers[CELLS..DATA].as_chunks_mut::<3>().0)
+        {
+            *fields = fields_of(cell.gate);
+        }
+        for i in 0..7 {
+            numbers[DATA + 3 * i] = d.data[i];
+            numbers[ENABLE + 3 * i] = d.enable[i];
+            numbers[CLEAR + 3 * i] = d.clear[i];
+        }
+        let shown = d.shown;
+        numbers[SHOWN..].copy_from_slice(&shown);
+        let mut list = Plain { numbers };
+        list.put(VERSION, list.lowest_version());
+        list
+    }
+
+    // The design in memory of a list.
+    pub fn design(&self) -> Design {
+        let numbers = self.numbers;
+        let mut cells = [Cell { gate: Gate::Buf(0) }; 256];
+        for (cell, fields) in cells
+            .iter_mut()
+            .zip(numbers[CELLS..DATA].as_chunks::<3>().0)
+        {
+            let [kind, a, b] = *fields;
+            cell.gate = gate_of(kind, a, b);
+        }
+        let mut d = Design {
+            inputs: (numbers[INPUTS] % 256) as u8,
+            latches: (numbers[LATCHES] % 256) as u8,
+            outputs: (numbers[OUTPUTS] % 256) as u8,
+            count: numbers[COUNT],
+            cells,
+            data: [0; 7],
+            enable: [0; 7],
+            clear: [0; 7],
+            shown: [0; 8],
+        };
+        for i in 0..7 {
+            d.data[i] = numbers[DATA + 3 * i];
+            d.enable[i] = numbers[ENABLE + 3 * i];
+            d.clear[i] = numbers[CLEAR + 3 * i];
+        }
+        d.shown.copy_from_slice(&numbers[SHOWN..]);
+        d
+    }
+}
 
 // The kind of a gate and the nets that it reads, the second 0 where it reads one.
-fn numbers_of(g: Gate) -> Numbers {
+fn fields_of(g: Gate) -> [u16; 3] {
     match g {
-        Gate::Buf(a) => Numbers(0, a, 0),
-        Gate::Not(a) => Numbers(1, a, 0),
-        Gate::And(a, b) => Numbers(2, a, b),
-        Gate::Or(a, b) => Numbers(3, a, b),
-        Gate::Xor(a, b) => Numbers(4, a, b),
-        Gate::Nand(a, b) => Numbers(5, a, b),
-        Gate::Nor(a, b) => Numbers(6, a, b),
-        Gate::Xnor(a, b) => Numbers(7, a, b),
+        Gate::Buf(a) => [0, a, 0],
+        Gate::Not(a) => [1, a, 0],
+        Gate::And(a, b) => [2, a, b],
+        Gate::Or(a, b) => [3, a, b],
+        Gate::Xor(a, b) => [4, a, b],
+        Gate::Nand(a, b) => [5, a, b],
+        Gate::Nor(a, b) => [6, a, b],
+        Gate::Xnor(a, b) => [7, a, b],
     }
-}
-
-// The design in memory of a list.
-pub fn design_of(list: &Plain) -> Design {
-    let mut d = Design {
-        inputs: (at(list, INPUTS) % 256) as u8,
-        latches: (at(list, LATCHES) % 256) as u8,
-        outputs: (at(list, OUTPUTS) % 256) as u8,
-        count: list[COUNT],
-        cells: [Cell { gate: Gate::Buf(0) }; 256],
-        data: [0; 7],
-        enable: [0; 7],
-        clear: [0; 7],
-        shown: [0; 8],
-    };
-    for i in 0..256 {
-        let place = CELLS + 3 * i;
-        let gate = gate_of(list[place], list[place + 1], list[place + 2]);
-        d.cells[i] = Cell { gate };
-        if i < 7 {
-            d.data[i] = list[DATA + 3 * i];
-            d.enable[i] = list[ENABLE + 3 * i];
-            d.clear[i] = list[CLEAR + 3 * i];
-        }
-        if i < 8 {
-            d.shown[i] = list[SHOWN + i];
-        }
-    }
-    d
 }
 
 // The gate of a kind that reads these nets, or the first of them.

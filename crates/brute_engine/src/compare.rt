@@ -1,208 +1,137 @@
 // Compares what the calls answer, and what they leave in every lent slice, with what the checker found. A slice that is lent for a list has
 // room to spare, or just fits it, or is a byte short.
-ghost use Rattle.std.specs.Prelude.{◌<◌};
-
-use crate::ask::{
-    ALIGNABLE, ALIKE, APART, LIST, MAP_ALIGNABLE, MAP_ALIKE, NEW, OLD, Question, REFUSED, ROUND,
-    STEPS, TRACE, VERDICT, ask,
-};
-use crate::checker::{Answers, answer, many, quiet_round};
-use crate::lists::{NONE, pick, shortest, start};
+use crate::ask::{Answer, Question, ask};
+use crate::checker::{Answers, answer, many};
+use crate::lists::{STEPS, Set, Walk, has};
+use crate::show;
 use crate::tables::{Machines, pair_at};
-use crate::tally::{COMPARED, DISAGREEMENTS, PLACES};
-use crate::{show, tally};
-use machine::Pair;
-use std::num::wrapping_add_usize;
+use crate::tally::Tally;
+use memory::Refusal;
 
 // The bytes of the longest slice that is lent: more than marks or the longest list need.
-pub(crate) const ROOM: usize = 33;
+pub(crate) const ROOM: usize = STEPS;
 
 // How many disagreements are printed.
 const PRINTED: usize = 5;
 
+// An answer, and the bytes that it leaves in a slice.
+#[derive(Clone, Copy)]
+pub(crate) struct Told {
+    pub(crate) answer: Answer,
+    pub(crate) bytes: [u8; ROOM],
+}
+
 // Compares everything for two machines.
-pub(crate) fn compare(m: Machines, tally: &mut [usize; PLACES]) {
+pub(crate) fn compare(m: &Machines, tally: &mut Tally) {
     let known = answer(m);
-    tally::count(known, tally);
-    compare_maps(m, known, tally);
+    tally.count(&known);
+    compare_maps(m, &known, tally);
     for p in 0..known.joined.pairs {
-        compare_pair(m, known, p, tally);
+        compare_pair(m, &known, p, tally);
     }
-    compare_verdict(m, known, tally);
+    compare_verdict(m, &known, tally);
 }
 
 // The maps of alike and of alignable pairs.
-fn compare_maps(m: Machines, known: Answers, tally: &mut [usize; PLACES]) {
-    let pair = Pair { old: 0, new: 0 };
-    let alike = known.alike;
-    let alignable = known.lists.found;
-    let mut wanted = [0usize; PLACES];
-    wanted[ALIKE] = many(alike);
-    wanted[ROUND] = quiet_round(known.traces);
-    compare_lent(
-        m,
-        Question {
-            call: MAP_ALIKE,
-            pair,
+fn compare_maps(m: &Machines, known: &Answers, tally: &mut Tally) {
+    let alike = Told {
+        answer: Answer {
+            alike: many(known.alike),
+            round: known.traces.quiet_round(),
+            ..Answer::default()
         },
-        wanted,
-        alike,
-        ROOM,
-        tally,
-    );
-    let mut wanted = [0usize; PLACES];
-    wanted[ALIGNABLE] = many(alignable);
-    compare_lent(
-        m,
-        Question {
-            call: MAP_ALIGNABLE,
-            pair,
+        bytes: marks(known.alike),
+    };
+    compare_lent(m, Question::MapAlike, &alike, ROOM, tally);
+    let alignable = Told {
+        answer: Answer {
+            alignable: many(known.lists.found),
+            ..Answer::default()
         },
-        wanted,
-        alignable,
-        ROOM,
-        tally,
-    );
+        bytes: marks(known.lists.found),
+    };
+    compare_lent(m, Question::MapAlignable, &alignable, ROOM, tally);
 }
 
-// The trace and the list of a pair.
-fn compare_pair(m: Machines, known: Answers, p: usize, tally: &mut [usize; PLACES]) {
-    let j = known.joined;
-    let pair = pair_at(m.sizes, p);
-    let mut wanted = [0usize; PLACES];
-    wanted[STEPS] = shortest(known.traces, p);
-    let walk = pick(j, known.traces, p, start(0));
-    compare_rooms(m, Question { call: TRACE, pair }, wanted, walk.list, tally);
-    wanted[STEPS] = shortest(known.lists, p);
-    let walk = pick(j, known.lists, p, start(0));
-    compare_rooms(m, Question { call: LIST, pair }, wanted, walk.list, tally);
-}
-
-// The verdict and its counts.
-fn compare_verdict(m: Machines, known: Answers, tally: &mut [usize; PLACES]) {
-    let pair = pair_at(m.sizes, known.apart);
-    let mut wanted = [0usize; PLACES];
-    wanted[STEPS] = known.judged.steps;
-    wanted[ALIKE] = many(known.alike);
-    wanted[ALIGNABLE] = many(known.lists.found);
-    if known.apart < known.joined.pairs {
-        wanted[APART] = 1;
-        wanted[OLD] = pair.old;
-        wanted[NEW] = pair.new;
-    }
-    compare_rooms(
-        m,
-        Question {
-            call: VERDICT,
-            pair,
-        },
-        wanted,
-        known.judged.list,
-        tally,
-    );
-}
-
-// A list with room to spare, in a slice that it just fits, and in one a byte short.
-fn compare_rooms(
-    m: Machines,
-    question: Question,
-    wanted: [usize; PLACES],
-    list: usize,
-    tally: &mut [usize; PLACES],
-) {
-    let steps = wanted[STEPS];
-    compare_room(m, question, wanted, list, ROOM, tally);
-    compare_room(m, question, wanted, list, steps, tally);
-    if steps > 0 {
-        compare_room(m, question, wanted, list, steps - 1, tally);
-    }
-}
-
-// A list in a slice of so many bytes. The call is refused where there is no list or it does not fit.
-fn compare_room(
-    m: Machines,
-    question: Question,
-    wanted: [usize; PLACES],
-    list: usize,
-    room: usize,
-    tally: &mut [usize; PLACES],
-) {
-    let steps = wanted[STEPS];
-    let mut refused = [0usize; PLACES];
-    if steps == NONE {
-        refused[REFUSED] = 15;
-        compare_lent(m, question, refused, 0, room, tally);
-        return;
-    }
-    if steps > room {
-        refused[REFUSED] = 16;
-        compare_lent(m, question, refused, 0, room, tally);
-        return;
-    }
-    compare_lent(m, question, wanted, list, room, tally);
-}
-
-// The numbers of the answer, and the bytes that it leaves in a slice of so many, if there are so many.
-fn compare_lent(
-    m: Machines,
-    question: Question,
-    wanted: [usize; PLACES],
-    list: usize,
-    room: usize,
-    tally: &mut [usize; PLACES],
-) {
-    if room > ROOM {
-        return;
-    }
-    let bytes = bytes_of(list);
-    let mut lent = [5u8; ROOM];
-    let found = ask(m, question, &mut lent[..room]);
-    let wrong = numbers_differ(&wanted, &found) + bytes_differ(&bytes, &lent, room);
-    tally[COMPARED] = wrapping_add_usize(tally[COMPARED], 2);
-    tally[DISAGREEMENTS] = wrapping_add_usize(tally[DISAGREEMENTS], wrong);
-    if wrong > 0 {
-        if tally[DISAGREEMENTS] <= PRINTED {
-            show::question(m, question, room);
-            show::answer(b"  EXPECTED", &wanted, &bytes);
-            show::answer(b"  FOUND   ", &found, &lent);
-        }
-    }
-}
-
-// The digits of a number to the base 4, as bytes.
-fn bytes_of(number: usize) -> [u8; ROOM] {
+// A byte for each pair, 1 for those of a set.
+fn marks(set: Set) -> [u8; ROOM] {
     let mut bytes = [0u8; ROOM];
-    let mut rest = number;
-    for i in 0..ROOM {
-        bytes[i] = (rest % 4) as u8;
-        rest = rest / 4;
+    for (pair, byte) in bytes.iter_mut().take(16).enumerate() {
+        *byte = u8::from(has(set, pair));
     }
     bytes
 }
 
-// 1 where two answers differ in a number, else 0.
-fn numbers_differ(wanted: &[usize; PLACES], found: &[usize; PLACES]) -> usize
-    ensures { result < 2 }
-{
-    for i in 0..PLACES {
-        if wanted[i] != found[i] {
-            return 1;
-        }
+// The trace and the list of a pair.
+fn compare_pair(m: &Machines, known: &Answers, p: usize, tally: &mut Tally) {
+    let pair = pair_at(m.sizes, p);
+    for (question, lists) in [
+        (Question::Trace(pair), &known.traces),
+        (Question::List(pair), &known.lists),
+    ] {
+        let mut walk = Walk::start(0);
+        walk.pick(&known.joined, lists, p);
+        let wanted = lists.shortest(p).map(|steps| Told {
+            answer: Answer::of_steps(steps),
+            bytes: walk.list,
+        });
+        compare_rooms(m, question, wanted, tally);
     }
-    0
 }
 
-// 1 where two slices differ in one of so many bytes, else 0.
-fn bytes_differ(wanted: &[u8; ROOM], found: &[u8; ROOM], room: usize) -> usize
-    ensures { result < 2 }
-{
-    for i in 0..ROOM {
-        if i >= room {
-            return 0;
-        }
-        if wanted[i] != found[i] {
-            return 1;
-        }
+// The verdict and its counts.
+fn compare_verdict(m: &Machines, known: &Answers, tally: &mut Tally) {
+    let apart = known.apart.map(|p| pair_at(m.sizes, p));
+    let wanted = known.judged.map(|walk| {
+        let answer = Answer {
+            steps: walk.steps,
+            alike: many(known.alike),
+            alignable: many(known.lists.found),
+            apart: apart.map(|pair| (pair.old, pair.new)),
+            ..Answer::default()
+        };
+        let bytes = walk.list;
+        Told { answer, bytes }
+    });
+    compare_rooms(m, Question::Verdict, wanted, tally);
+}
+
+// A list with room to spare, in a slice that it just fits, and in one a byte short; or that there is none.
+fn compare_rooms(m: &Machines, question: Question, wanted: Option<Told>, tally: &mut Tally) {
+    let Some(wanted) = wanted else {
+        compare_lent(m, question, &refused(Refusal::NothingSought), ROOM, tally);
+        return;
+    };
+    let steps = wanted.answer.steps;
+    compare_lent(m, question, &wanted, ROOM, tally);
+    compare_lent(m, question, &wanted, steps, tally);
+    if steps > 0 {
+        compare_lent(m, question, &refused(Refusal::ShortList), steps - 1, tally);
     }
-    0
+}
+
+// A refusal, beside which the slice is cleared.
+fn refused(reason: Refusal) -> Told {
+    Told {
+        answer: Answer::refused(reason),
+        bytes: [0; ROOM],
+    }
+}
+
+// The answer, and the bytes that it leaves in a slice of so many, if there are so many.
+fn compare_lent(m: &Machines, question: Question, wanted: &Told, room: usize, tally: &mut Tally) {
+    if room > ROOM {
+        return;
+    }
+    let mut bytes = [5u8; ROOM];
+    let answer = ask(m, question, &mut bytes[..room]);
+    let wrong = usize::from(wanted.answer != answer)
+        + usize::from(wanted.bytes[..room] != bytes[..room]);
+    tally.comparisons = tally.comparisons.wrapping_add(2);
+    tally.disagreements = tally.disagreements.wrapping_add(wrong);
+    if wrong > 0 && tally.disagreements <= PRINTED {
+        show::question(m, question, room);
+        show::told(b"  EXPECTED", wanted);
+        show::told(b"  FOUND   ", &Told { answer, bytes });
+    }
 }

@@ -6,131 +6,122 @@
 ghost use Rattle.std.specs.Prelude.{◌<◌};
 
 use crate::compare::compare;
-use crate::tables::{ENTRIES, Machines, place, wide};
-use crate::tally::PLACES;
+use crate::tables::{ENTRIES, Machines, Table, place};
+use crate::tally::Tally;
 use machine::Sizes;
-use std::num::{wrapping_add_usize, wrapping_sub_usize};
 
 // How many pairs of machines are drawn: 500 for each of the 12 sizes and 3 ways.
 const DRAWS: usize = 18000;
 
 // The ways of drawing: apart, renamed, and renamed with one entry changed.
-const APART: usize = 0;
+#[derive(Clone, Copy, PartialEq)]
+enum Way {
+    Apart,
+    Renamed,
+    Changed,
+}
 
-const CHANGED: usize = 2;
+// A multiplicative generator of numbers that look like chance.
+#[derive(Drop)]
+struct Dice {
+    seed: u64,
+}
 
-// The tables of one machine.
-#[derive(Clone, Copy)]
-struct Table {
-    next: [u8; ENTRIES],
-    out: [u8; ENTRIES],
-    seen: [u8; ENTRIES],
+impl Dice {
+    // The next number below `sides`, from the higher digits, or 0 where there is no side.
+    fn roll(&mut self, sides: usize) -> usize {
+        self.seed = self.seed % 2147483647 * 48271 % 2147483647;
+        let digits = (self.seed / 65536) as usize;
+        digits.checked_rem(sides).unwrap_or(0)
+    }
+
+    // The same as a byte.
+    fn byte(&mut self, sides: usize) -> u8 {
+        (self.roll(sides) % 256) as u8
+    }
+
+    fn flip(&mut self) -> bool {
+        self.roll(2) == 0
+    }
 }
 
 // Compares on all of them.
-pub(crate) fn compare_all(tally: &mut [usize; PLACES]) {
-    let mut seed = 1;
+pub(crate) fn compare_all(tally: &mut Tally) {
+    let mut dice = Dice { seed: 1 };
     for i in 0..DRAWS {
+        let vectors = i / 6000 % 3 + 1;
         let sizes = Sizes {
             old: i / 3000 % 2 + 3,
             new: i / 1500 % 2 + 3,
-            vectors: i / 6000 % 3 + 1,
-            allowed: draw_allowed(i / 6000 % 3 + 1, &mut seed),
+            vectors,
+            allowed: draw_allowed(vectors, &mut dice),
         };
-        compare(draw(sizes, i / 500 % 3, &mut seed), tally);
+        let way = match i / 500 % 3 {
+            0 => Way::Apart,
+            1 => Way::Renamed,
+            _ => Way::Changed,
+        };
+        compare(&draw(sizes, way, &mut dice), tally);
     }
 }
 
 // Draws which vectors are allowed: all of them, or in about half of the draws any, but not none.
-fn draw_allowed(vectors: usize, seed: &mut u64) -> u64 {
+fn draw_allowed(vectors: usize, dice: &mut Dice) -> u64 {
     let every = match vectors {
         1 => 1,
         2 => 3,
         _ => 7,
     };
-    if roll(seed, 2) == 0 {
+    if dice.flip() {
         return every as u64;
     }
-    (roll(seed, every) % 7 + 1) as u64
-}
-
-// The next number below `sides`, from the higher digits of a multiplicative generator.
-fn roll(seed: &mut u64, sides: usize) -> usize {
-    let next = *seed % 2147483647 * 48271 % 2147483647;
-    *seed = next;
-    if sides == 0 {
-        return 0;
-    }
-    (next / 65536) as usize % sides
+    (dice.roll(every) % 7 + 1) as u64
 }
 
 // Draws two machines.
-fn draw(sizes: Sizes, way: usize, seed: &mut u64) -> Machines {
-    let zeros = wrapping_add_usize(4, roll(seed, 4));
-    let old = draw_table(seed, sizes.old, zeros);
-    let mut new = draw_table(seed, sizes.new, zeros);
-    if way != APART {
-        let shift = roll(seed, sizes.old);
-        new = rename(sizes, shift, old, seed);
+fn draw(sizes: Sizes, way: Way, dice: &mut Dice) -> Machines {
+    let zeros = dice.roll(4) % 4 + 4;
+    let old = draw_table(dice, sizes.old, zeros);
+    let mut new = draw_table(dice, sizes.new, zeros);
+    if way != Way::Apart {
+        let shift = dice.roll(sizes.old);
+        new = rename(sizes, shift, &old, dice);
     }
-    if way == CHANGED {
-        let changed = change(sizes, new, seed);
-        new = changed;
+    if way == Way::Changed {
+        change(sizes, &mut new, dice);
     }
-    let old_next = old.next;
-    let old_out = old.out;
-    let old_seen = old.seen;
-    let new_next = new.next;
-    let new_out = new.out;
-    let new_seen = new.seen;
-    Machines {
-        sizes,
-        old_next,
-        old_out,
-        old_seen,
-        new_next,
-        new_out,
-        new_seen,
-    }
+    Machines { sizes, old, new }
 }
 
 // Draws a machine.
-fn draw_table(seed: &mut u64, states: usize, zeros: usize) -> Table {
+fn draw_table(dice: &mut Dice, states: usize, zeros: usize) -> Table {
     let mut table = Table {
-        next: [0u8; ENTRIES],
-        out: [0u8; ENTRIES],
-        seen: [0u8; ENTRIES],
+        next: [0; ENTRIES],
+        out: [0; ENTRIES],
+        seen: [0; ENTRIES],
     };
     for i in 0..ENTRIES {
-        table.next[i] = narrow(roll(seed, states));
-        table.out[i] = output(seed, zeros);
-        table.seen[i] = output(seed, 7);
+        table.next[i] = dice.byte(states);
+        table.out[i] = output(dice, zeros);
+        table.seen[i] = output(dice, 7);
     }
     table
 }
 
 // Draws an output: 0 in `zeros` of 8 draws, else 1 or 128.
-fn output(seed: &mut u64, zeros: usize) -> u8 {
-    if roll(seed, 8) < zeros {
+fn output(dice: &mut Dice, zeros: usize) -> u8 {
+    if dice.roll(8) < zeros {
         return 0;
     }
-    if roll(seed, 2) == 0 {
-        return 1;
-    }
-    128
-}
-
-// A number below 256 as a byte.
-fn narrow(n: usize) -> u8 {
-    (n % 256) as u8
+    if dice.flip() { 1 } else { 128 }
 }
 
 // Makes the new machine from the old one: the new state s stands for the old state s + shift, modulo the number of old states.
-fn rename(sizes: Sizes, shift: usize, old: Table, seed: &mut u64) -> Table {
-    let mut table = old;
+fn rename(sizes: Sizes, shift: usize, old: &Table, dice: &mut Dice) -> Table {
+    let mut table = *old;
     for i in 0..ENTRIES {
         let from = entry_of(sizes, shift, i);
-        table.next[i] = narrow(name(sizes, shift, wide(old.next[from]), seed));
+        table.next[i] = name(sizes, shift, old.next[from], dice);
         table.out[i] = old.out[from];
         table.seen[i] = old.seen[from];
     }
@@ -141,50 +132,37 @@ fn rename(sizes: Sizes, shift: usize, old: Table, seed: &mut u64) -> Table {
 fn entry_of(sizes: Sizes, shift: usize, i: usize) -> usize
     ensures { result < 12 }
 {
-    let vectors = sizes.vectors;
-    let states = sizes.old;
-    if vectors == 0 {
-        return 0;
-    }
-    if states == 0 {
-        return 0;
-    }
-    let state = wrapping_add_usize(i / vectors, shift) % states;
-    place(state, vectors, i % vectors) % ENTRIES
+    let row = i.checked_div(sizes.vectors).unwrap_or(0);
+    let column = i.checked_rem(sizes.vectors).unwrap_or(0);
+    let state = row.wrapping_add(shift).checked_rem(sizes.old).unwrap_or(0);
+    place(state, sizes.vectors, column) % ENTRIES
 }
 
 // One of the new states that stand for an old one, or any where there is none.
-fn name(sizes: Sizes, shift: usize, old: usize, seed: &mut u64) -> usize {
+fn name(sizes: Sizes, shift: usize, old: u8, dice: &mut Dice) -> u8 {
     let states = sizes.old;
-    if states == 0 {
-        return 0;
-    }
-    let first = wrapping_sub_usize(wrapping_add_usize(old, states), shift) % states;
-    let second = wrapping_add_usize(first, states);
+    let behind = usize::from(old).wrapping_add(states).wrapping_sub(shift);
+    let first = behind.checked_rem(states).unwrap_or(0);
+    let second = first.wrapping_add(states);
     if first >= sizes.new {
-        return roll(seed, sizes.new);
+        return dice.byte(sizes.new);
     }
-    if second >= sizes.new {
-        return first;
-    }
-    if roll(seed, 2) == 0 {
-        return first;
-    }
-    second
+    let named = if second >= sizes.new || dice.flip() {
+        first
+    } else {
+        second
+    };
+    (named % 256) as u8
 }
 
 // Draws one next state anew, or changes one output or one watched value.
-fn change(sizes: Sizes, table: Table, seed: &mut u64) -> Table {
-    let mut t = table;
-    let i = roll(seed, place(sizes.new, sizes.vectors, 0)) % ENTRIES;
-    if roll(seed, 2) == 0 {
-        t.next[i] = narrow(roll(seed, sizes.new));
-        return t;
+fn change(sizes: Sizes, table: &mut Table, dice: &mut Dice) {
+    let i = dice.roll(place(sizes.new, sizes.vectors, 0)) % ENTRIES;
+    if dice.flip() {
+        table.next[i] = dice.byte(sizes.new);
+    } else if dice.flip() {
+        table.seen[i] = table.seen[i].wrapping_add(1);
+    } else {
+        table.out[i] = table.out[i].wrapping_add(1);
     }
-    if roll(seed, 2) == 0 {
-        t.seen[i] = narrow(wrapping_add_usize(wide(t.seen[i]), 1));
-        return t;
-    }
-    t.out[i] = narrow(wrapping_add_usize(wide(t.out[i]), 1));
-    t
 }

@@ -1,5 +1,6 @@
 // A map whose numbers are at most 255, kept a byte a pair: where two maps are needed at once, it leaves the slice of 16-bit numbers, in which
-// maps are sought and lists are found, to the other.
+// maps are sought and lists are found, to the other. Both functions go by an index, since a proof knows nothing of what is written through
+// an adapter of `iter_mut`; and they are two, since one would take the conversion as a closure and its bound as a clause, and be longer.
 #![tactic(auto)]
 
 ghost use Rattle.std.specs.Prelude.{ℕ, ◌<◌, ◌≤◌, length, get_or};
@@ -12,10 +13,8 @@ pub fn put(map: &[u16], n: usize, bytes: &mut [u8])
     requires by_index { (q : ℕ) → q < n → get_or map.now q 0 ≤ 255 }
     ensures { Copied map.now n bytes.old bytes.new }
 {
-    let mut i = 0;
-    while i < n {
+    for i in 0..n {
         bytes[i] = map[i] as u8;
-        i += 1;
     }
 }
 
@@ -25,9 +24,7 @@ pub fn take_back(bytes: &[u8], n: usize, map: &mut [u16])
     requires n_in_bounds_2 { n ≤ length map.old }
     ensures { Copied bytes.now n map.old map.new }
 {
-    let mut i = 0;
-    while i < n {
-        map[i] = bytes[i] as u16;
-        i += 1;
+    for i in 0..n {
+        map[i] = u16::from(bytes[i]);
     }
 }

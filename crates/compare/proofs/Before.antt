@@ -7,7 +7,7 @@ use mathlib.Core.Logic.{◌⊎◌, inl}
 use mathlib.Core.List.{[]}
 use native.Mathlib.Omega.{arith}
 use Rattle.memory.specs.Meaning.Orders.{table_order}
-use Rattle.memory.specs.Meaning.Refusals.{Free, Right}
+use Rattle.memory.specs.Meaning.Refusals.{Free, Right, reply_of}
 use Rattle.memory.specs.Working.Lowest.{Numbered, Lowest, place_in}
 use Rattle.memory.proofs.Refusals.{lowest_before}
 use Rattle.memory.proofs.Table.{up_to_16}
@@ -22,7 +22,8 @@ use Rattle.machine.specs.Working.Sets.{Below, Agree}
 use Rattle.machine.proofs.Allowed.{ones_allow_all, ones_right}
 use Rattle.machine.proofs.Sets.{all_agree, agree_back}
 use Rattle.verdict.specs.declared.Judged.{Judged}
-use Rattle.verdict.specs.Meaning.Decision.{Decision, verdict_reply, Decided, CountsBeside, ShortList, short}
+use Rattle.verdict.specs.declared.Verdict.{Verdict}
+use Rattle.verdict.specs.Meaning.Decision.{Decided, CountsBeside, ShortList, short}
 use Rattle.verdict.proofs.Before.{decided_over, short_over, counts_over}
 use Rattle.compare.specs.Meaning.Designs.{machine_of, sizes_of, all_vectors}
 use Rattle.compare.specs.Meaning.Comparing.{TablesLent, TablesLeft, CompareFault, Compared, ClearedAll, TablesKept, Compares}
@@ -41,16 +42,16 @@ module _ (a b : Design) where
     scratch : scratch_of s < pairs z → CompareFaultBefore n s 12
     list : {k : ℕ} → ShortList (machine_of a []) (machine_of b []) (Below z) z s.written k → CompareFaultBefore n s k
 
-  pub record ComparedBefore (t : TablesLeft) (e : Left) (x : Decision) : Type 0 where
+  pub record ComparedBefore (t : TablesLeft) (e : Left) (x : Verdict) : Type 0 where
     pub decided : Decided (machine_of a []) (machine_of b []) (Below z) z e.written x
     pub old : HoldsDesign a [] t.old
     pub new : HoldsDesign b [] t.new
 
   pub record ComparesBefore (n : TablesLent) (s : Lent) (t : TablesLeft) (e : Left) (r : Judged) : Type 0 where
-    pub keeps : Right (Free (CompareFaultBefore n s)) (Lowest (CompareFaultBefore n s)) (ComparedBefore t e) (ClearedAll t e) (verdict_reply r.verdict)
+    pub keeps : Right (Free (CompareFaultBefore n s)) (Lowest (CompareFaultBefore n s)) (ComparedBefore t e) (ClearedAll t e) (reply_of r.verdict)
     pub tidy : Tidy s e
     pub tables : TablesKept n t
-    pub counts : CountsBeside (machine_of a []) (machine_of b []) (Below z) z (verdict_reply r.verdict) r.alike r.alignable
+    pub counts : CountsBeside (machine_of a []) (machine_of b []) (Below z) z (reply_of r.verdict) r.alike r.alignable
 
   agree : Agree (Ok z) (Below z)
   agree = all_agree (ones_allow_all refl)
@@ -78,8 +79,8 @@ module _ (a b : Design) where
   pub compares_before : (n : TablesLent) (s : Lent) (t : TablesLeft) (e : Left) (r : Judged) → Compares a b [] [] every n s t e r → ComparesBefore n s t e r
   compares_before n s t e r w = record {
     keeps = lowest_before (former_numbered n s) (now n s) (former n s) (Compared a b [] [] every t e) (ComparedBefore t e) (ClearedAll t e)
-        (λ x k. record { decided = decided_over (machine_of a []) (machine_of b []) agree z e.written x k.decided; old = k.old; new = k.new }) (verdict_reply r.verdict) w.keeps;
+        (λ x k. record { decided = decided_over (machine_of a []) (machine_of b []) agree z e.written x k.decided; old = k.old; new = k.new }) (reply_of r.verdict) w.keeps;
     tidy = w.tidy;
     tables = w.tables;
-    counts = counts_over (machine_of a []) (machine_of b []) agree z (verdict_reply r.verdict) r.alike r.alignable w.counts;
+    counts = counts_over (machine_of a []) (machine_of b []) agree z (reply_of r.verdict) r.alike r.alignable w.counts;
   }

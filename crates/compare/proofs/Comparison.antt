@@ -4,20 +4,18 @@ use mathlib.Core.Path.{◌≡◌, ◌∙◌, refl, sym, subst}
 use mathlib.Core.Logic.{◌⊎◌, inl, inr}
 use mathlib.Core.List.{List}
 use native.Mathlib.Omega.{arith}
-use lib.ListN.{length}
 use Rattle.numbers.proofs.Order.{stable}
 use Rattle.memory.specs.Meaning.Orders.{table_order}
-use Rattle.memory.specs.Meaning.Refusals.{Free, Keeps, Reply, answer, refusal}
+use Rattle.memory.specs.Meaning.Refusals.{number_of, Free, Keeps, Reply, answer, refusal, reply_of}
 use Rattle.memory.specs.Meaning.Slices.{Zero, Cleared}
 use Rattle.memory.specs.Meaning.Tables.{Table, Lengths, lengths_of, shortest_of}
 use Rattle.memory.specs.Working.Lowest.{place_in}
 use Rattle.memory.proofs.Orders.{first_map}
 use Rattle.memory.proofs.Places.{place_high, place_20, place_last}
 use Rattle.memory.proofs.Refusals.{first_then}
-use Rattle.memory.proofs.Tables.{cleared_zero, cleared_room}
 use Rattle.netlist.specs.declared.Design.{Design}
 use Rattle.netlist.specs.Meaning.Faults.{Accepted}
-use Rattle.simulator.specs.declared.TabulatedBoth.{TabulatedBoth}
+use Rattle.simulator.specs.declared.BothSizes.{BothSizes}
 use Rattle.simulator.proofs.Faults.{table_long, both_place}
 use Rattle.simulator.specs.Meaning.Tables.{size_of, HoldsDesign, TableFault, InterfaceFault, BothFault, TabulatesBoth}
 use Rattle.machine.specs.declared.Sizes.{Sizes}
@@ -28,20 +26,22 @@ use Rattle.machine.proofs.Transfer.{same_back, same_there, is_apart_there, writt
 use Rattle.machine.proofs.Counting as C
 use Rattle.machine.specs.Meaning.Faults.{TablesFault, TooShort, VectorsFault}
 use Rattle.machine.specs.Meaning.Lent.{Lent, Left, lent_of, left_of, scratch_of}
+use Rattle.std.proofs.Common.{Result, Err}
+use Rattle.memory.specs.declared.Refusal.{Refusal}
 use Rattle.verdict.specs.declared.Verdict.{Verdict}
 use Rattle.verdict.specs.declared.Judged.{Judged}
-use Rattle.verdict.specs.Meaning.Decision.{Decision, verdict_reply, Decided, CountsBeside, ShortList, short}
-use Rattle.verdict.specs.Meaning.Decision as D
+use Rattle.verdict.specs.Meaning.Decision.{Decided, CountsBeside, ShortList, short}
 use Rattle.verdict.specs.Meaning.Promise.{JudgeFault}
+use Rattle.verdict.specs.Working.Deciding.{Beside}
 use Rattle.compare.specs.Meaning.Designs.{machine_of, sizes_of}
 use Rattle.compare.specs.Meaning.Comparing.{TablesLent, tables_lent_of, TablesLeft, tables_left_of, CompareFault, Compared, ClearedAll, TablesKept, Compares}
-use Rattle.compare.specs.Working.Judging.{ClearedTable, KeptOrCleared, JudgedOrCleared}
+use Rattle.compare.specs.Working.Judging.{KeptOrCleared, JudgedOrCleared}
 use Rattle.compare.proofs.Agreement.{holds_gives, tables_agree, tables_fault}
 
 -- what is decided of one description of two designs is decided of the other
-pub decided_there : {z : Sizes} {m0 m1 n0 n1 : Machine} → SameSteps z m0 m1 n0 n1 → (l : List ℕ) (x : Decision) → Decided m0 m1 (Ok z) z l x → Decided n0 n1 (Ok z) z l x
-decided_there e l (D.same n) w = record { sought = same_there e _ w.sought; fits = w.fits; beyond = w.beyond }
-decided_there e l (D.apart p n) w = record { sought = is_apart_there e p _ w.sought; fits = w.fits; beyond = w.beyond }
+pub decided_there : {z : Sizes} {m0 m1 n0 n1 : Machine} → SameSteps z m0 m1 n0 n1 → (l : List ℕ) (x : Verdict) → Decided m0 m1 (Ok z) z l x → Decided n0 n1 (Ok z) z l x
+decided_there e l (Verdict.Same n) w = record { sought = same_there e _ w.sought; fits = w.fits; beyond = w.beyond }
+decided_there e l (Verdict.Apart p n) w = record { sought = is_apart_there e p _ w.sought; fits = w.fits; beyond = w.beyond }
 
 short_there : {z : Sizes} {m0 m1 n0 n1 : Machine} → SameSteps z m0 m1 n0 n1 → (k n : ℕ) → ShortList m0 m1 (Ok z) z k n → ShortList n0 n1 (Ok z) z k n
 short_there e k _ (short l w h) = short l (written_there e l w) h
@@ -49,22 +49,12 @@ short_there e k _ (short l w h) = short l (written_there e l w) h
 short_place : {z : Sizes} {m0 m1 : Machine} {k n : ℕ} → ShortList m0 m1 (Ok z) z k n → place_in table_order n ≡ 18
 short_place (short l w h) = omega (arith, place_last 16 (omega arith) (omega arith))
 
-counts_there : {z : Sizes} {m0 m1 n0 n1 : Machine} → SameSteps z m0 m1 n0 n1 → (x : Reply Decision) (n k : ℕ) → CountsBeside m0 m1 (Ok z) z x n k → CountsBeside n0 n1 (Ok z) z x n k
+counts_there : {z : Sizes} {m0 m1 n0 n1 : Machine} → SameSteps z m0 m1 n0 n1 → (x : Reply Verdict) (n k : ℕ) → CountsBeside m0 m1 (Ok z) z x n k → CountsBeside n0 n1 (Ok z) z x n k
 counts_there e (answer x) n k c = record {
   alike = C.counts_there (alike_there e) (alike_there (same_back e)) c.alike;
   alignable = C.counts_there (alignable_there e) (alignable_there (same_back e)) c.alignable;
 }
 counts_there e (refusal m) n k c = c
-
--- beside an answer the tables stay
-pub tables_kept : (t : Tables) (v : Verdict) → ((n : ℕ) → v ≡ Verdict.Refused n → ⊥) → KeptOrCleared t (tables_left_of t.old t.new) (verdict_reply v)
-tables_kept t (Verdict.Same n) h = refl
-tables_kept t (Verdict.Apart p n) h = refl
-tables_kept t (Verdict.Refused n) h = absurd (h n refl)
-
--- beside a refusal they are cleared
-pub cleared_table : (t l : Table) → Cleared (length t.next) l.next → Cleared (length t.out) l.out → Cleared (length t.seen) l.seen → ClearedTable t l
-cleared_table t l p q r = record { zero = cleared_zero t l p q r; room = cleared_room t l p q r }
 
 -- nothing but 12 of scratch, 20 and 16 of the list is left where tabulating was not refused
 module _ (a b : Design) (w0 w1 : List ℕ) (allowed : ℕ) (n : TablesLent) (s : Lent) (t0 t1 : Table)
@@ -101,13 +91,13 @@ module _ (a b : Design) (w0 w1 : List ℕ) (allowed : ℕ) (n : TablesLent) (s :
   fault_back k (CompareFault.vectors w) = JudgeFault.call (VectorsFault.allowed w)
   fault_back k (CompareFault.list f) = JudgeFault.list (short_there (same_back agree) s.written k f)
 
-  answered : (t : TablesLeft) (e : Left) (x : Decision) → t ≡ tables_left_of t0 t1 → Decided (old_machine Both) (new_machine Both) (Ok (sizes_of a b allowed)) (sizes_of a b allowed) e.written x → Compared a b w0 w1 allowed t e x
+  answered : (t : TablesLeft) (e : Left) (x : Verdict) → t ≡ tables_left_of t0 t1 → Decided (old_machine Both) (new_machine Both) (Ok (sizes_of a b allowed)) (sizes_of a b allowed) e.written x → Compared a b w0 w1 allowed t e x
   answered t e x q w = rw q (record { decided = decided_there agree e.written x w; old = h0; new = h1 })
 
   kept : (t : TablesLeft) → t ≡ tables_left_of t0 t1 → TablesKept n t
   kept t q = rw q (record { old = k0; new = k1 })
 
-  keeps_there : (t : TablesLeft) (e : Left) (x : Reply Decision) → Keeps (JudgeFault Both s) (Decided (old_machine Both) (new_machine Both) (Ok (sizes_of a b allowed)) (sizes_of a b allowed) e.written) (Zero e.written) x
+  keeps_there : (t : TablesLeft) (e : Left) (x : Reply Verdict) → Keeps (JudgeFault Both s) (Decided (old_machine Both) (new_machine Both) (Ok (sizes_of a b allowed)) (sizes_of a b allowed) e.written) (Zero e.written) x
       → KeptOrCleared Both t x → Keeps (CompareFault a b w0 w1 allowed n s) (Compared a b w0 w1 allowed t e) (ClearedAll t e) x × TablesKept n t
   keeps_there t e (answer x) k c = ((λ m f. k.0 m (fault_back m f), answered t e x c k.1), kept t c)
   keeps_there t e (refusal m) k c = (
@@ -117,37 +107,37 @@ module _ (a b : Design) (w0 w1 : List ℕ) (allowed : ℕ) (n : TablesLent) (s :
 
   compared : (t : TablesLeft) (e : Left) (r : Judged) → JudgedOrCleared Both s t e r → Compares a b w0 w1 allowed n s t e r
   compared t e r j =
-      let w = keeps_there t e (verdict_reply r.verdict) j.judges.keeps j.tables in
-      record { keeps = w.0; tidy = j.judges.tidy; tables = w.1; counts = counts_there agree (verdict_reply r.verdict) r.alike r.alignable j.judges.counts }
+      let w = keeps_there t e (reply_of r.verdict) j.judges.keeps j.tables in
+      record { keeps = w.0; tidy = j.judges.tidy; tables = w.1; counts = counts_there agree (reply_of r.verdict) r.alike r.alignable j.judges.counts }
 
 -- the two calls one after the other
-pub compared_both : {a b : Design} {w0 w1 : List ℕ} (allowed : ℕ) {n0 n1 : Lengths} {s : Lent} {s0 s1 v : ℕ} (t0 t1 : Table) {t : TablesLeft} {e : Left} {r : Judged}
-    → TabulatesBoth a b w0 w1 n0 n1 (TabulatedBoth.Both s0 s1 v) t0 t1
-    → JudgedOrCleared (tables_of (record { old = s0; new = s1; vectors = v; allowed = allowed }) t0 t1) s t e r → Compares a b w0 w1 allowed (tables_lent_of n0 n1) s t e r
-compared_both {a} {b} {w0} {w1} allowed {n0} {n1} {s} {s0} {s1} {v} t0 t1 {t} {e} {r} w j =
+pub compared_both : {a b : Design} {w0 w1 : List ℕ} (allowed : ℕ) {n0 n1 : Lengths} {s : Lent} {z : BothSizes} (t0 t1 : Table) {t : TablesLeft} {e : Left} {r : Judged}
+    → TabulatesBoth a b w0 w1 n0 n1 (Result.Ok z) t0 t1
+    → JudgedOrCleared (tables_of (record { old = z.old; new = z.new; vectors = z.vectors; allowed = allowed }) t0 t1) s t e r → Compares a b w0 w1 allowed (tables_lent_of n0 n1) s t e r
+compared_both {a} {b} {w0} {w1} allowed {n0} {n1} {s} {z} t0 t1 {t} {e} {r} w j =
     let k = w.keeps.1 in
     let p = k.old_states in
     let q = k.new_states in
     let u = k.vectors in
-    let z : ◌≡◌ {A = Sizes} (record { old = s0; new = s1; vectors = v; allowed = allowed }) (sizes_of a b allowed) = cc in
+    let sized : ◌≡◌ {A = Sizes} (record { old = z.old; new = z.new; vectors = z.vectors; allowed = allowed }) (sizes_of a b allowed) = cc in
     compared a b w0 w1 allowed (tables_lent_of n0 n1) s t0 t1 w.keeps.0 w.old_room w.new_room k.old k.new t e r
-    (subst (λ (x : Sizes). JudgedOrCleared (tables_of x t0 t1) s t e r) z j)
+    (subst (λ (x : Sizes). JudgedOrCleared (tables_of x t0 t1) s t e r) sized j)
 
 -- a refusal of the tabulating call comes no later than 12
-pub refused_first : {a b : Design} {w0 w1 : List ℕ} (allowed : ℕ) {n0 n1 : Lengths} {k depth reach written : ℕ} {t0 t1 : Table} {depth' reach' written' : List ℕ}
-    → TabulatesBoth a b w0 w1 n0 n1 (TabulatedBoth.Refused k) t0 t1 → Cleared depth depth' → Cleared reach reach' → Cleared written written'
-    → Compares a b w0 w1 allowed (tables_lent_of n0 n1) (lent_of depth reach written) (tables_left_of t0 t1) (left_of depth' reach' written') (record { verdict = Verdict.Refused k; alike = 0; alignable = 0 })
-refused_first {a} {b} {w0} {w1} allowed {n0} {n1} {k} {depth} {reach} {written} w x y z = record {
-  keeps = (first_then (λ m f. CompareFault.tabulating f) w.keeps.0 split, record { old = w.keeps.1.0; new = w.keeps.1.1; list = z.zero });
+pub refused_first : {a b : Design} {w0 w1 : List ℕ} (allowed : ℕ) {n0 n1 : Lengths} {k : Refusal} {depth reach written : ℕ} {t0 t1 : Table} {depth' reach' written' : List ℕ} {r : Judged}
+    → TabulatesBoth a b w0 w1 n0 n1 (Err k) t0 t1 → Cleared depth depth' → Cleared reach reach' → Cleared written written' → Beside (Err k) 0 0 r
+    → Compares a b w0 w1 allowed (tables_lent_of n0 n1) (lent_of depth reach written) (tables_left_of t0 t1) (left_of depth' reach' written') r
+refused_first {a} {b} {w0} {w1} allowed {n0} {n1} {k} {depth} {reach} {written} w x y z c = record {
+  keeps = rw c.verdict (first_then (λ m f. CompareFault.tabulating f) w.keeps.0 split, record { old = w.keeps.1.0; new = w.keeps.1.1; list = z.zero });
   tidy = record { depth = x; reach = y; written = z.size };
   tables = record { old = w.old_room; new = w.new_room };
-  counts = (refl, refl);
+  counts = rw c.verdict (c.alike, c.alignable);
 }
   where
-    place : place_in table_order k ≤ 13
+    place : place_in table_order (number_of k) ≤ 13
     place = both_place a b w0 w1 (shortest_of n0) (shortest_of n1) w.keeps.0.applies
 
-    split : (m : ℕ) → CompareFault a b w0 w1 allowed (tables_lent_of n0 n1) (lent_of depth reach written) m → BothFault a b w0 w1 (shortest_of n0) (shortest_of n1) m ⊎ (place_in table_order k ≤ place_in table_order m)
+    split : (m : ℕ) → CompareFault a b w0 w1 allowed (tables_lent_of n0 n1) (lent_of depth reach written) m → BothFault a b w0 w1 (shortest_of n0) (shortest_of n1) m ⊎ (place_in table_order (number_of k) ≤ place_in table_order m)
     split m (CompareFault.tabulating f) = inl f
     split m (CompareFault.scratch l) = inr (omega (arith, place, place_high 12 (omega arith) (omega arith)))
     split m (CompareFault.vectors o) = inr (omega (arith, place, place_20 20 refl))

@@ -3,7 +3,8 @@ use Prim.Native.Nat.{ℕ, ◌<◌}
 use mathlib.Core.Path.{◌≡◌, sym, ◌∙◌, subst}
 use mathlib.Core.List.{List}
 use lib.ListN.{length}
-use Rattle.memory.specs.Meaning.Refusals.{Free}
+use Rattle.memory.specs.Meaning.Refusals.{Free, reply_of}
+use Rattle.memory.proofs.Checked.{reply_injective}
 use Rattle.memory.proofs.Refusals.{kept_unique, keeps_map}
 use Rattle.memory.proofs.Slices.{zero_unique}
 use Rattle.netlist.specs.declared.Design.{Design}
@@ -20,8 +21,9 @@ use Rattle.machine.specs.Meaning.Lent.{Lent, Left, Tidy, scratch_of}
 use Rattle.machine.specs.Working.Pairs.{Closed}
 use Rattle.machine.proofs.Lent.{same_left}
 use Rattle.verdict.specs.declared.Judged.{Judged}
-use Rattle.verdict.specs.Meaning.Decision.{Decision, verdict_reply, Decided, CountsBeside, ShortList}
-use Rattle.verdict.proofs.Laws.{decision_unique, list_unique, reply_one, judged_one}
+use Rattle.verdict.specs.declared.Verdict.{Verdict}
+use Rattle.verdict.specs.Meaning.Decision.{Decided, CountsBeside, ShortList}
+use Rattle.verdict.proofs.Laws.{decision_unique, list_unique, judged_one}
 use Rattle.compare.specs.Meaning.Designs.{machine_of, sizes_of}
 use Rattle.compare.specs.Meaning.Comparing.{TablesLent, TablesLeft, CompareFault, Compared, ClearedAll, TablesKept, Compares}
 use Rattle.compare.proofs.Lengths.{designs_stay}
@@ -36,7 +38,7 @@ module _ (a b : Design) (w0 w1 : List ℕ) (allowed : ℕ) (n : TablesLent) (s :
   same_all : t ≡ u → e.written ≡ f.written → ◌≡◌ {A = TablesLeft × Left} (t, e) (u, f)
   same_all p w = let q = same_left s e f x y w in λ k. (p k, q k)
 
-  answers_unique : Free (CompareFault a b w0 w1 allowed n s) → (p q : Decision) → Compared a b w0 w1 allowed t e p → Compared a b w0 w1 allowed u f q → (p ≡ q) × (◌≡◌ {A = TablesLeft × Left} (t, e) (u, f))
+  answers_unique : Free (CompareFault a b w0 w1 allowed n s) → (p q : Verdict) → Compared a b w0 w1 allowed t e p → Compared a b w0 w1 allowed u f q → (p ≡ q) × (◌≡◌ {A = TablesLeft × Left} (t, e) (u, f))
   answers_unique none p q g h = (
     decision_unique (machine_of a w0) (machine_of b w1) (sizes_of a b allowed) closed e.written f.written long p q g.decided h.decided,
     same_all (same_tables (holds_unique n.old t.old u.old i.old j.old a w0 g.old h.old) (holds_unique n.new t.new u.new i.new j.new b w1 g.new h.new))
@@ -57,8 +59,8 @@ pub compares_unique : (a b : Design) (w0 w1 : List ℕ) (allowed : ℕ) (n : Tab
 compares_unique a b w0 w1 allowed n s t u e f q r g h =
     let w = kept_unique (CompareFault a b w0 w1 allowed n s) (λ (l : TablesLeft × Left). Compared a b w0 w1 allowed l.0 l.1) (λ (l : TablesLeft × Left). ClearedAll l.0 l.1) (t, e) (u, f)
     (answers_unique a b w0 w1 allowed n s t u e f g.tables h.tables g.tidy h.tidy) (refusals_unique a b w0 w1 allowed n s t u e f g.tables h.tables g.tidy h.tidy)
-    (verdict_reply q.verdict) (verdict_reply r.verdict) g.keeps h.keeps in
-    (judged_one (machine_of a w0) (machine_of b w1) (sizes_of a b allowed) (reply_one q.verdict r.verdict w.0) g.counts h.counts, w.1)
+    (reply_of q.verdict) (reply_of r.verdict) g.keeps h.keeps in
+    (judged_one (machine_of a w0) (machine_of b w1) (sizes_of a b allowed) (reply_injective q.verdict r.verdict w.0) g.counts h.counts, w.1)
 
 -- "A design's entries beyond G, L and O count for nothing"
 same_machine : (a c : Design) (w : List ℕ) → SameDesign a c → machine_of a w ≡ machine_of c w
@@ -85,8 +87,8 @@ pub same_comparison : (a b c d : Design) (w0 w1 : List ℕ) (allowed : ℕ) → 
 same_comparison a b c d w0 w1 allowed p q n s t e r h = record {
   keeps = keeps_map (compare_fault a b c d w0 w1 allowed p q n s) (compare_fault c d a b w0 w1 allowed (same_sym p) (same_sym q) n s)
       (λ x w. record { decided = there a b c d w0 w1 allowed p q (λ m0 m1 z. Decided m0 m1 (Ok z) z e.written x) w.decided; old = same_holds a c p w0 _ w.old; new = same_holds b d q w1 _ w.new })
-      (λ w. w) (verdict_reply r.verdict) h.keeps;
+      (λ w. w) (reply_of r.verdict) h.keeps;
   tidy = h.tidy;
   tables = h.tables;
-  counts = there a b c d w0 w1 allowed p q (λ m0 m1 z. CountsBeside m0 m1 (Ok z) z (verdict_reply r.verdict) r.alike r.alignable) h.counts;
+  counts = there a b c d w0 w1 allowed p q (λ m0 m1 z. CountsBeside m0 m1 (Ok z) z (reply_of r.verdict) r.alike r.alignable) h.counts;
 }

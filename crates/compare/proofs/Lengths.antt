@@ -20,6 +20,8 @@ use Rattle.machine.specs.Meaning.Lent.{Lent, Left, scratch_of}
 use Rattle.machine.specs.Meaning.Verdict.{IsSame}
 use Rattle.machine.specs.Meaning.Bounds.{most_trace, most_list, trace_room, verdict_room, StaysIn, Bounded}
 use Rattle.machine.proofs.Bounds.{bounded, trace_room_lem, verdict_room_lem}
+use Rattle.std.proofs.Common.{Result, Err}
+use Rattle.memory.specs.declared.Refusal.{Refusal}
 use Rattle.verdict.specs.declared.Verdict.{Verdict}
 use Rattle.verdict.specs.declared.Judged.{Judged}
 use Rattle.verdict.specs.Meaning.Decision.{ShortList}
@@ -91,14 +93,14 @@ module _ (a b : Design) (w0 w1 : List ℕ) (allowed : ℕ) where
   -- `compare`
   module _ {n : TablesLent} {s : Lent} {t : TablesLeft} {e : Left} {r : Judged} (c : Compares a b w0 w1 allowed n s t e r) where
     -- "A verdict's list takes .. at most (S0 + S1 − 1) × (S0 × S1 − 1) steps": of what it answers
-    pub same_few : (k : ℕ) → r.verdict ≡ Verdict.Same k → k ≤ most_list z
+    pub same_few : (k : ℕ) → r.verdict ≡ Result.Ok (Verdict.Same k) → k ≤ most_list z
     same_few k is = same_most (designs_bounded (Ok z)) e.written k (rw is at c.keeps).1.decided
 
     -- "No trace is longer than S0 + S1 − 1"
-    pub apart_few : (p : Pair) (k : ℕ) → r.verdict ≡ Verdict.Apart p k → k ≤ most_trace z
+    pub apart_few : (p : Pair) (k : ℕ) → r.verdict ≡ Result.Ok (Verdict.Apart p k) → k ≤ most_trace z
     apart_few p k is = apart_most (designs_bounded (Ok z)) e.written p k (rw is at c.keeps).1.decided
 
-    module _ (is : r.verdict ≡ Verdict.Refused 16) where
+    module _ (is : r.verdict ≡ Err Refusal.ShortList) where
       refused : First (CompareFault a b w0 w1 allowed n s) 16
       refused = (rw is at c.keeps).0
 

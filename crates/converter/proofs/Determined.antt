@@ -1,4 +1,5 @@
 -- No two outputs, as lists of bytes, meet one promise.
+use Rattle.std.proofs.Common.{Option, ℕ}
 use Prim.Native.Nat.{ℕ}
 use mathlib.Core.Path.{◌≡◌, refl, sym, ◌∙◌, ap}
 use mathlib.Core.List.{List}
@@ -11,7 +12,6 @@ use Rattle.writer.proofs.Images.{one_image}
 use Rattle.writer.proofs.RoundTrip.{front_bytes}
 use Rattle.writer.specs.Meaning.Writing.{AreBytes}
 use Rattle.pieces.specs.Meaning.Pieces.{last_field}
-use Rattle.streams.specs.declared.Input.{Input}
 use Rattle.streams.specs.Meaning.Output.{Sends}
 use Rattle.streams.proofs.Sending.{one_answer}
 use Rattle.converter.specs.Meaning.Output.{unread_message, AnswersText, Outputs, Converts}
@@ -34,6 +34,6 @@ one_conversion t a b k l r s x y p q =
     let e = one_output t (take r a) (take s b) k l (front_bytes r a x) (front_bytes s b y) p.outputs q.outputs in
     (e.0, omega (arith, p.counts.1, q.counts.1, ap length e.1), e.1)
 
-pub one_sending : (i : Input) (room a b : List ℕ) (k l r s : ℕ) → AreBytes a → AreBytes b
+pub one_sending : (i : Option ℕ) (room a b : List ℕ) (k l r s : ℕ) → AreBytes a → AreBytes b
     → Sends unread_message Converts i room a k r → Sends unread_message Converts i room b l s → (k ≡ l) × (take r a ≡ take s b)
 one_sending i room a b k l r s x y p q = one_answer (λ t c d. let e = one_conversion t a b k l r s x y c d in (e.0, e.2)) p.says q.says

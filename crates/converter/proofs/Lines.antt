@@ -1,39 +1,39 @@
 -- The first line of a text, looked through for its line feed.
-use Prim.Native.Nat.{ℕ, ◌+◌, ◌<◌, ◌≤◌}
-use mathlib.Core.Path.{◌≡◌, sym, ◌∙◌, ap}
+use Prim.Native.Nat.{ℕ}
+use mathlib.Core.Path.{◌≡◌, refl, sym}
+use mathlib.Core.Bool.{Bool, true, false, not, true≢false, false≢true}
 use mathlib.Core.List.{List, [], ◌∷◌}
-use native.Mathlib.Omega.{arith}
-use native.Mathlib.Numerals.{add-one}
-use lib.ListN.{length, get_or, drop, drop_of_length-le}
-use lib.Seq.{drop-cons}
+use native.Mathlib.Decide.{ℕ_discrete}
+use borrow.Author.Tests.{ne_eqb, eq-eqb}
+use lib.Dec.{eqb}
+use Rattle.std.specs.List.{list_any}
+use Rattle.memory.specs.Working.Tests.{Tells}
 use Rattle.lines.specs.Meaning.Spelling.{line_feed, words, skip, words_at}
 use Rattle.lines.proofs.Front.{open_behind, open_before, feed_ends}
 
--- the first i bytes are no line feed, so the first line is ended if it is in what stands behind them
-pub record GoesOn (t : List ℕ) (i : ℕ) : Type 0 where
-  pub within : i ≤ length t
-  pub there : words_at t 0 ≡ [] → words (drop i t) ≡ []
-  pub back : words (drop i t) ≡ [] → words_at t 0 ≡ []
+abbrev pub has_feed : List ℕ → Bool
+has_feed t = list_any (λ x. eqb x line_feed) t
 
-pub goes_none : (t : List ℕ) → GoesOn t 0
+module _ (x : ℕ) (t : List ℕ) where
+  none_here : (has_feed t ≡ false → words t ≡ []) → Dec (x ≡ line_feed) → has_feed (x ∷ t) ≡ false → words (x ∷ t) ≡ []
+  none_here later (yes q) e = absurd (true≢false (rw (eq-eqb x line_feed q) at e))
+  none_here later (no q) e = open_before x t q (later (rw (ne_eqb x line_feed q) at e))
+
+  one_here : (has_feed t ≡ true → words t ≡ [] → ⊥) → Dec (x ≡ line_feed) → has_feed (x ∷ t) ≡ true → words (x ∷ t) ≡ [] → ⊥
+  one_here later (yes p) e q = feed_ends x t p q
+  one_here later (no p) e q = later (rw (ne_eqb x line_feed p) at e) (open_behind x t q)
+
+-- where no byte is a line feed, no line is ended, and else the first one is
+no_feed : (t : List ℕ) → has_feed t ≡ false → words t ≡ []
+unfolding words
+no_feed [] e = refl
+no_feed (x ∷ t) e = none_here x t (no_feed t) (ℕ_discrete x line_feed) e
+
+a_feed : (t : List ℕ) → has_feed t ≡ true → words t ≡ [] → ⊥
+a_feed [] e q = false≢true e
+a_feed (x ∷ t) e q = one_here x t (a_feed t) (ℕ_discrete x line_feed) e q
+
+pub first_unended : (t : List ℕ) (b : Bool) → b ≡ has_feed t → Tells (not b) (words_at t 0 ≡ [])
 unfolding skip
-goes_none t = record { within = omega arith; there = λ e. e; back = λ e. e }
-
-module _ {t : List ℕ} {i : ℕ} (g : GoesOn t i) where
-  module _ (h : i < length t) where
-    at_i : drop i t ≡ get_or t i 0 ∷ drop (i + 1) t
-    at_i = rw add-one (drop-cons t i 0 h)
-
-    pub goes_more : (get_or t i 0 ≡ line_feed → ⊥) → GoesOn t (i + 1)
-    goes_more other = record {
-      within = omega arith;
-      there = λ e. open_behind (get_or t i 0) (drop (i + 1) t) (sym (ap words at_i) ∙ g.there e);
-      back = λ e. g.back (ap words at_i ∙ open_before (get_or t i 0) (drop (i + 1) t) other e);
-    }
-
-    pub goes_to_feed : get_or t i 0 ≡ line_feed → words_at t 0 ≡ [] → ⊥
-    goes_to_feed e q = feed_ends (get_or t i 0) (drop (i + 1) t) e (sym (ap words at_i) ∙ g.there q)
-
-  pub goes_to_end : length t ≤ i → words_at t 0 ≡ []
-  unfolding words
-  goes_to_end h = g.back (ap words (drop_of_length-le t {i = i} h))
+first_unended t true e = a_feed t (sym e)
+first_unended t false e = no_feed t (sym e)

@@ -6,14 +6,13 @@ use lib.ListN.{take}
 use Rattle.memory.specs.Meaning.Refusals.{Free}
 use Rattle.netlist.specs.declared.Design.{Design}
 use Rattle.netlist.specs.Meaning.Faults.{SameDesign}
-use Rattle.image.specs.declared.Answer.TheVariants as Answer·variants
+use Rattle.std.proofs.Common.{Result, Ok}
+use Rattle.memory.specs.declared.Refusal.{Refusal}
 use Rattle.image.specs.declared.Reading.{Reading}
 use Rattle.format.specs.Meaning.Format.{bytes_of, decoded, Encodes}
 use Rattle.format.specs.Meaning.Faults.{ImageFault}
 use Rattle.image.specs.Meaning.Reading.{ReadsImage}
 use Rattle.image.proofs.Accepted.{clean, spelled}
-use Rattle.writer.specs.declared.Written.{Written}
-use Rattle.writer.specs.declared.Written.TheVariants.{Bytes}
 use Rattle.writer.specs.Meaning.Writing.{Writes}
 use Rattle.writer.proofs.RoundTrip.{writes, write_read}
 use Rattle.drawing.specs.Meaning.Wires.{drawn}
@@ -24,12 +23,12 @@ use Rattle.aiger.proofs.Accepted.{text_accepted}
 use Rattle.converter.proofs.Outputs.{read_accepted}
 
 -- over the promises of the three calls: what `aiger::read` accepts, `writer::write` writes and `image::read` reads back
-pub drawing_written : (t : List ℕ) (d : Design) → ReadsDrawing t (record { answer = Answer·variants.Accepted; design = d })
-    → (n : ℕ) (w : Written) (l : List ℕ) → Writes d n w l → bytes_of d ≤ n
-    → (w ≡ Bytes (bytes_of d)) × ((r : Reading) → ReadsImage (take (bytes_of d) l) r → (r.answer ≡ Answer·variants.Accepted) × SameDesign d r.design)
+pub drawing_written : (t : List ℕ) (d : Design) → ReadsDrawing t (record { answer = Ok tt; design = d })
+    → (n : ℕ) (w : Result ℕ Refusal) (l : List ℕ) → Writes d n w l → bytes_of d ≤ n
+    → (w ≡ Ok (bytes_of d)) × ((r : Reading) → ReadsImage (take (bytes_of d) l) r → (r.answer ≡ Ok tt) × SameDesign d r.design)
 drawing_written t d p n w l h room =
-    let e = writes d (read_accepted p refl refl) n w l h room in
-    (e, λ r q. write_read d n (bytes_of d) l (subst (λ (x : Written). Writes d n x l) e h) r q)
+    let e = writes d (read_accepted p refl) n w l h room in
+    (e, λ r q. write_read d n (bytes_of d) l (subst (λ (x : Result ℕ Refusal). Writes d n x l) e h) r q)
 
 -- the bytes that stand for a drawing are an image to which no number applies, of the design that the drawing draws
 pub output_read : (t o : List ℕ) → ((p : Part) → TextFault t p → ⊥) → Encodes (drawn (drawing_in t)) o → (Free (ImageFault o)) × SameDesign (drawn (drawing_in t)) (decoded o)

@@ -1,2 +1,1 @@
-pub mod Landing
 pub mod Extract

@@ -1,7 +1,7 @@
 -- The design that is made of the drawing's cells and nets, and the replies.
 use Prim.Native.Nat.{ℕ, ◌+◌, ◌<◌, ◌≤◌}
-use mathlib.Core.Path.{◌≡◌, refl, sym, ◌∙◌, ap}
-use mathlib.Core.List.{List, [], ◌∷◌}
+use mathlib.Core.Path.{◌≡◌, refl, sym, ◌∙◌, ap, subst}
+use mathlib.Core.List.{List}
 use native.Mathlib.Omega.{arith}
 use native.Mathlib.Nat.{zero-add}
 use native.Mathlib.Decide.{dec_lt}
@@ -9,7 +9,7 @@ use borrow.Author.Tests.{le-ltb}
 use lib.ListN.{length, get_or, replicate}
 use lib.Seq.{ext_get_or}
 use Rattle.memory.specs.Meaning.Lists.{list_of}
-use Rattle.memory.specs.Meaning.Refusals.{FirstOrNone}
+use Rattle.memory.specs.Meaning.Refusals.{Free, First, number_of}
 use Rattle.memory.specs.Working.Filling.{Filled}
 use Rattle.memory.proofs.Lists.{length_list_of, get_d_list_of, filled_list_of}
 use Rattle.netlist.specs.declared.Cell.{Cell}
@@ -18,18 +18,20 @@ use Rattle.limits.specs.Meaning.Limits.{most_latches, most_outputs, most_cells}
 use Rattle.netlist.specs.Meaning.Gates.{blank_cell}
 use Rattle.netlist.specs.Meaning.Faults.{DesignFault}
 use Rattle.netlist.proofs.Numbers.{Kind, three, five, nine, kind}
-use Rattle.image.specs.declared.Answer.TheVariants.{Accepted, Refused}
-use Rattle.image.specs.declared.Reading.{Reading}
-use Rattle.image.specs.Meaning.Reading.{empty_design}
+use Rattle.std.specs.Prelude.{Ok, Err, Option, None, Some}
+use Rattle.std.proofs.Common.{ok_or}
+use Rattle.drawing.specs.declared.wires.Wires.{Wires}
+use Rattle.drawing.specs.Working.Wires.{WiresOf}
+use Rattle.memory.specs.declared.Refusal.{Refusal}
+use Rattle.memory.specs.declared.Refusal.TheVariants.{Undriven, SizeOver}
 use Rattle.drawing.specs.declared.Drawing.{Drawing}
-use Rattle.memory.specs.Meaning.Orders.{FirstIn}
 use Rattle.memory.proofs.Orders.{first_here, first_later}
 use Rattle.drawing.specs.Meaning.Numbers.{next, shown}
 use Rattle.drawing.specs.Meaning.Wires.{negated, net_of, cell_of, drawn}
 use Rattle.drawing.specs.Meaning.Faults.{DrawingFault}
 use Rattle.drawing.specs.Working.Places.{read_at}
 use Rattle.drawing.specs.Working.Wiring.{Spelled}
-use Rattle.elaborate.specs.Working.Drawn.{Draws}
+use Rattle.elaborate.specs.Working.Drawn.{Drafts}
 use Rattle.drawing.proofs.Places.{at_next, at_shown}
 use Rattle.elaborate.proofs.Ranges.{drawn_3, drawn_5}
 use Rattle.drawing.proofs.Numbers as Numbers
@@ -62,32 +64,36 @@ module _ (d : Drawing) (count : ℕ) (is : count ≡ length (negated d)) where
       rw (m, c, r, s)
 
 -- the replies
-turned_away : {d : Drawing} {r : Reading} {n : ℕ} → FirstIn (DrawingFault d) (18 ∷ 3 ∷ 9 ∷ []) n → r.answer ≡ Refused n → r.design ≡ empty_design → Draws d r
-turned_away {n = n} f a e = record { keeps = rw a (record { entry = n; first = f; numbered = refl }, e) }
+pub drafts_18 : {d : Drawing} → DrawingFault d 18 → Drafts d (Err Undriven)
+drafts_18 f = record { keeps = (record { entry = 18; first = first_here f; numbered = refl }, tt) }
 
-pub draws_18 : {d : Drawing} {r : Reading} → DrawingFault d 18 → r.answer ≡ Refused 18 → r.design ≡ empty_design → Draws d r
-draws_18 f = turned_away (first_here f)
+pub drafts_unwired : {d : Drawing} (w : Option Wires) (r : Refusal) → WiresOf d w → Err r ≡ ok_or w Undriven → Drafts d (Err r)
+drafts_unwired None r f e = let q : r ≡ Undriven = cc in rw q (drafts_18 f)
+drafts_unwired (Some v) r f e = absurd (let q : ◌≡◌ {A = ℕ} 0 1 = cc in omega arith)
 
-pub draws_3 : {d : Drawing} {r : Reading} → (DrawingFault d 18 → ⊥) → most_cells < d.ands + length (negated d) → r.answer ≡ Refused 3 → r.design ≡ empty_design → Draws d r
-draws_3 p l = turned_away (first_later p (first_here (DrawingFault.cells l)))
+pub wires_are : {d : Drawing} (w : Option Wires) (v : Wires) → WiresOf d w → w ≡ Some v → (v.of.drawing ≡ d) × (v.count ≡ length (negated d)) × (DrawingFault d 18 → ⊥)
+wires_are {d} w v f e =
+    let o : WiresOf d (Some v) = subst (λ (x : Option Wires). WiresOf d x) e f in
+    (o.0, v.wired.count ∙ ap (λ (x : Drawing). length (negated x)) o.0, o.1)
+
+pub drafts_3 : {d : Drawing} → (DrawingFault d 18 → ⊥) → most_cells < d.ands + length (negated d) → Drafts d (Err SizeOver)
+drafts_3 p l = record { keeps = (record { entry = 3; first = first_later p (first_here (DrawingFault.cells l)); numbered = refl }, tt) }
 
 module _ {d : Drawing} (s : Spelled d) (served : DrawingFault d 18 → ⊥) (few : d.ands + length (negated d) ≤ most_cells) where
   no_3 : DrawingFault d 3 → ⊥
   no_3 (DrawingFault.cells l) = omega (arith, few, l)
 
-  pub draws_9 : {r : Reading} {c : Design} {m : ℕ} → c ≡ drawn d → FirstOrNone (DesignFault c) m → (m ≡ 0 → ⊥) → r.answer ≡ Refused 9 → r.design ≡ empty_design → Draws d r
-  draws_9 {m = m} is low z = turned_away (first_later served (first_later no_3 (first_here (go (kind fault)))))
+  -- of the numbers of the design, 9 alone can apply
+  pub drafts_9 : {r : Refusal} {c : Design} → c ≡ drawn d → First (DesignFault c) (number_of r) → Drafts d (Err r)
+  drafts_9 {r} is low = go (kind (rw is at low.applies))
     where
-      fault : DesignFault (drawn d) m
-      fault = rw is at (low.some z).applies
-
-      go : Kind (drawn d) m → DrawingFault d 9
+      go : Kind (drawn d) (number_of r) → Drafts d (Err r)
       go (three q f) = absurd (drawn_3 s served few f)
       go (five q f) = absurd (drawn_5 s served few f)
-      go (nine q l) = DrawingFault.loop (DesignFault.loop l.0 l.1 l.2)
+      go (nine q l) = record { keeps = (record { entry = 9; first = first_later served (first_later no_3 (first_here (DrawingFault.loop (DesignFault.loop l.0 l.1 l.2)))); numbered = q }, tt) }
 
-  pub draws_none : {c : Design} {m : ℕ} → c ≡ drawn d → FirstOrNone (DesignFault c) m → m ≡ 0 → Draws d (record { answer = Accepted; design = c })
-  draws_none {c} is low z = record { keeps = (free, is) }
+  pub drafts_none : {c : Design} → c ≡ drawn d → Free (DesignFault c) → Drafts d (Ok c)
+  drafts_none {c} is low = record { keeps = (free, is) }
     where
       free : (n : ℕ) → DrawingFault d n → ⊥
       free n f = go (Numbers.kind f)
@@ -98,4 +104,4 @@ module _ {d : Drawing} (s : Spelled d) (served : DrawingFault d 18 → ⊥) (few
           go (Numbers.Kind.nine e) = nine_of (rw e at f)
             where
               nine_of : DrawingFault d 9 → ⊥
-              nine_of (DrawingFault.loop p) = low.none z 9 (rw is p)
+              nine_of (DrawingFault.loop p) = low 9 (rw is p)

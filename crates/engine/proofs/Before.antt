@@ -7,12 +7,13 @@ use mathlib.Core.List.{List}
 use native.Mathlib.Omega.{arith}
 use lib.ListN.{length}
 use Rattle.memory.specs.Meaning.Orders.{table_order}
-use Rattle.memory.specs.Meaning.Refusals.{Free, Right}
+use Rattle.memory.specs.Meaning.Refusals.{Free, Right, reply_of}
 use Rattle.memory.specs.Meaning.Slices.{Zero}
 use Rattle.memory.specs.Working.Lowest.{Numbered, Lowest, place_in}
 use Rattle.memory.proofs.Refusals.{lowest_before}
 use Rattle.memory.proofs.Table.{up_to_16}
-use Rattle.machine.specs.declared.Found.{Found}
+use Rattle.std.proofs.Common.{Result}
+use Rattle.memory.specs.declared.Refusal.{Refusal}
 use Rattle.machine.specs.declared.Pair.{Pair}
 use Rattle.machine.specs.Meaning.Allowed.{every_vector}
 use Rattle.machine.specs.Meaning.Machine.{Alike, Alignable, IsTrace, IsList}
@@ -25,10 +26,9 @@ use Rattle.machine.proofs.Allowed.{ones_allow_all}
 use Rattle.machine.proofs.Lent.{listed_there}
 use Rattle.machine.proofs.Sets.{all_agree, agree_back, alike_over, alignable_over, trace_over, list_over, round_over}
 use Rattle.table_faults.proofs.Refusals.{tables_among, tables_numbered, before_20}
-use Rattle.engine.specs.declared.MappedAlike.{MappedAlike}
-use Rattle.engine.specs.declared.MappedAlignable.{MappedAlignable}
-use Rattle.engine.specs.Meaning.Maps.{AlikeCount, alike_reply, alignable_reply, Marks, MarksAlike, MapsAlike, MapsAlignable}
-use Rattle.engine.specs.Meaning.Pairs.{found_reply, PairFault, Finds, FindsTrace, FindsList}
+use Rattle.engine.specs.declared.AlikeCount.{AlikeCount}
+use Rattle.engine.specs.Meaning.Maps.{Marks, MarksAlike, MapsAlike, MapsAlignable}
+use Rattle.engine.specs.Meaning.Pairs.{PairFault, Finds, FindsTrace, FindsList}
 use Rattle.engine.proofs.Marks.{marks_there}
 
 -- the promises of before
@@ -43,12 +43,12 @@ module _ (t : Tables) where
     pub marks : Marks AlikeBefore t.sizes mark x.count
     pub round : FirstUnchanged (A (old_machine t) (new_machine t) (Below t.sizes)) (In t.sizes) x.round
 
-  pub record MapsAlikeBefore (s : Lent) (e : Left) (r : MappedAlike) : Type 0 where
-    pub keeps : Right (Free (TablesFault t (room_of s))) (Lowest (TablesFault t (room_of s))) (MarksBefore e.written) (Zero e.written) (alike_reply r)
+  pub record MapsAlikeBefore (s : Lent) (e : Left) (r : Result AlikeCount Refusal) : Type 0 where
+    pub keeps : Right (Free (TablesFault t (room_of s))) (Lowest (TablesFault t (room_of s))) (MarksBefore e.written) (Zero e.written) (reply_of r)
     pub tidy : Tidy s e
 
-  pub record MapsAlignableBefore (s : Lent) (e : Left) (r : MappedAlignable) : Type 0 where
-    pub keeps : Right (Free (TablesFault t (room_of s))) (Lowest (TablesFault t (room_of s))) (Marks AlignableBefore t.sizes e.written) (Zero e.written) (alignable_reply r)
+  pub record MapsAlignableBefore (s : Lent) (e : Left) (r : Result ℕ Refusal) : Type 0 where
+    pub keeps : Right (Free (TablesFault t (room_of s))) (Lowest (TablesFault t (room_of s))) (Marks AlignableBefore t.sizes e.written) (Zero e.written) (reply_of r)
     pub tidy : Tidy s e
 
   -- 11 to 16
@@ -59,14 +59,14 @@ module _ (t : Tables) where
     none : None → PairFaultBefore s p None Sought 15
     short_list : (l : List ℕ) → Sought l → s.written < length l → PairFaultBefore s p None Sought 16
 
-  pub record FindsBefore (s : Lent) (p : Pair) (None : Type 0) (Sought : List ℕ → Type 0) (e : Left) (r : Found) : Type 0 where
-    pub keeps : Right (Free (PairFaultBefore s p None Sought)) (Lowest (PairFaultBefore s p None Sought)) (Listed Sought e.written) (Zero e.written) (found_reply r)
+  pub record FindsBefore (s : Lent) (p : Pair) (None : Type 0) (Sought : List ℕ → Type 0) (e : Left) (r : Result ℕ Refusal) : Type 0 where
+    pub keeps : Right (Free (PairFaultBefore s p None Sought)) (Lowest (PairFaultBefore s p None Sought)) (Listed Sought e.written) (Zero e.written) (reply_of r)
     pub tidy : Tidy s e
 
-  abbrev FindsTraceBefore : Lent → Pair → Left → Found → Type 0
+  abbrev FindsTraceBefore : Lent → Pair → Left → Result ℕ Refusal → Type 0
   FindsTraceBefore s p e r = FindsBefore s p (AlikeBefore p) (IsTrace (old_machine t) (new_machine t) (Below t.sizes) p) e r
 
-  abbrev FindsListBefore : Lent → Pair → Left → Found → Type 0
+  abbrev FindsListBefore : Lent → Pair → Left → Result ℕ Refusal → Type 0
   FindsListBefore s p e r = FindsBefore s p (AlignableBefore p → ⊥) (IsList (old_machine t) (new_machine t) (Below t.sizes) p) e r
 
 module _ (t : Tables) (all : t.sizes.allowed ≡ every_vector t.sizes.vectors) where
@@ -76,17 +76,17 @@ module _ (t : Tables) (all : t.sizes.allowed ≡ every_vector t.sizes.vectors) w
   back : Agree (Below t.sizes) (Ok t.sizes)
   back = agree_back same
 
-  pub maps_alike_before : (s : Lent) (e : Left) (r : MappedAlike) → MapsAlike t s e r → MapsAlikeBefore t s e r
+  pub maps_alike_before : (s : Lent) (e : Left) (r : Result AlikeCount Refusal) → MapsAlike t s e r → MapsAlikeBefore t s e r
   maps_alike_before s e r w = record {
     keeps = lowest_before tables_numbered (λ m f. VectorsFault.tables f) (before_20 all) (MarksAlike t e.written) (MarksBefore t e.written) (Zero e.written)
-        (λ x k. record { marks = marks_there (λ p i. alike_over _ _ same p) (λ p i. alike_over _ _ back p) k.marks; round = round_over _ _ same _ _ k.round }) (alike_reply r) w.keeps;
+        (λ x k. record { marks = marks_there (λ p i. alike_over _ _ same p) (λ p i. alike_over _ _ back p) k.marks; round = round_over _ _ same _ _ k.round }) (reply_of r) w.keeps;
     tidy = w.tidy;
   }
 
-  pub maps_alignable_before : (s : Lent) (e : Left) (r : MappedAlignable) → MapsAlignable t s e r → MapsAlignableBefore t s e r
+  pub maps_alignable_before : (s : Lent) (e : Left) (r : Result ℕ Refusal) → MapsAlignable t s e r → MapsAlignableBefore t s e r
   maps_alignable_before s e r w = record {
     keeps = lowest_before tables_numbered (λ m f. VectorsFault.tables f) (before_20 all) (Marks (AlignableIn t) t.sizes e.written) (Marks (AlignableBefore t) t.sizes e.written) (Zero e.written)
-        (λ x k. marks_there (λ p i. alignable_over _ _ same p) (λ p i. alignable_over _ _ back p) k) (alignable_reply r) w.keeps;
+        (λ x k. marks_there (λ p i. alignable_over _ _ same p) (λ p i. alignable_over _ _ back p) k) (reply_of r) w.keeps;
     tidy = w.tidy;
   }
 
@@ -120,16 +120,16 @@ module _ (t : Tables) (all : t.sizes.allowed ≡ every_vector t.sizes.vectors) w
     former n (PairFault.none o) = inl (PairFaultBefore.none (none-to o))
     former n (PairFault.short_list l o h) = inl (PairFaultBefore.short_list l (to l o) h)
 
-    finds_before : (e : Left) (r : Found) → Finds t s p None Sought e r → FindsBefore t s p None' Sought' e r
+    finds_before : (e : Left) (r : Result ℕ Refusal) → Finds t s p None Sought e r → FindsBefore t s p None' Sought' e r
     finds_before e r w = record {
       keeps = lowest_before former_numbered now former (Listed Sought e.written) (Listed Sought' e.written) (Zero e.written)
-          (λ n. listed_there to) (found_reply r) w.keeps;
+          (λ n. listed_there to) (reply_of r) w.keeps;
       tidy = w.tidy;
     }
 
-  pub finds_trace_before : (s : Lent) (p : Pair) (e : Left) (r : Found) → FindsTrace t s p e r → FindsTraceBefore t s p e r
+  pub finds_trace_before : (s : Lent) (p : Pair) (e : Left) (r : Result ℕ Refusal) → FindsTrace t s p e r → FindsTraceBefore t s p e r
   finds_trace_before s p = finds_before s p (alike_over _ _ same p) (alike_over _ _ back p) (trace_over _ _ same p) (trace_over _ _ back p)
 
-  pub finds_list_before : (s : Lent) (p : Pair) (e : Left) (r : Found) → FindsList t s p e r → FindsListBefore t s p e r
+  pub finds_list_before : (s : Lent) (p : Pair) (e : Left) (r : Result ℕ Refusal) → FindsList t s p e r → FindsListBefore t s p e r
   finds_list_before s p =
       finds_before s p (λ n a. n (alignable_over _ _ back p a)) (λ n a. n (alignable_over _ _ same p a)) (list_over _ _ same _ p) (list_over _ _ back _ p)

@@ -1,17 +1,19 @@
 -- No refusal has number 0, and no two answers, or slices left, meet one promise.
-use Prim.Native.Nat.{ℕ, ◌<◌, ◌≤◌}
-use mathlib.Core.Path.{◌≡◌, refl, sym, ap, ◌∙◌}
+use Prim.Native.Nat.{ℕ, ◌<◌}
+use mathlib.Core.Path.{◌≡◌, sym, ap, ◌∙◌}
 use mathlib.Core.List.{List}
 use native.Mathlib.Omega.{arith}
 use native.Mathlib.Decide.{dec_lt}
 use lib.ListN.{length, get_or, take}
 use lib.Seq.{ext_get_or, get_or-take, length-take-le}
 use Rattle.numbers.specs.Meaning.Count.{count_of}
-use Rattle.memory.specs.Meaning.Refusals.{Reply, answer, refusal, Keeps}
+use Rattle.std.proofs.Common.{Result}
+use Rattle.memory.specs.declared.Refusal.{Refusal}
+use Rattle.memory.specs.Meaning.Refusals.{Reply, refusal, reply_of, Keeps}
 use Rattle.memory.specs.Meaning.Slices.{Zero}
 use Rattle.memory.proofs.Refusals.{keeps_unique}
 use Rattle.memory.proofs.Slices.{zero_unique}
-use Rattle.machine.specs.declared.Found.{Found}
+use Rattle.memory.proofs.Checked.{reply_injective, reply_some}
 use Rattle.machine.specs.declared.Pair.{Pair}
 use Rattle.machine.specs.declared.Sizes.{Sizes}
 use Rattle.machine.specs.Meaning.Tables.{Tables, pairs, AlikeIn, AlignableIn, TraceIn, ListIn}
@@ -22,29 +24,20 @@ use Rattle.machine.proofs.Rounds.{round_unique}
 use Rattle.machine.specs.Working.Pairs.{pair_at}
 use Rattle.machine.proofs.Numbers.{pair_at_in, at_pair}
 use Rattle.machine.specs.Meaning.Faults.{VectorsFault}
-use Rattle.table_faults.proofs.Refusals.{vectors_some}
-use Rattle.opening.proofs.States.{state_some}
-use Rattle.engine.specs.declared.MappedAlike.{MappedAlike}
-use Rattle.engine.specs.declared.MappedAlignable.{MappedAlignable}
+use Rattle.engine.specs.declared.AlikeCount.{AlikeCount}
 use Rattle.machine.specs.Meaning.Lent.{Lent, Left, room_of, Tidy, Listed}
-use Rattle.engine.specs.Meaning.Maps.{AlikeCount, alike_reply, alignable_reply, Marks, MarksAlike, MapsAlike, MapsAlignable}
-use Rattle.engine.specs.Meaning.Pairs.{found_reply, PairFault, Finds, FindsTrace, FindsList}
+use Rattle.engine.specs.Meaning.Maps.{Marks, MarksAlike, MapsAlike, MapsAlignable}
+use Rattle.engine.specs.Meaning.Pairs.{PairFault, Finds, FindsTrace, FindsList}
 
--- no reason has a number below 11
-pub alike_not_zero : {t : Tables} {s : Lent} {e : Left} → MapsAlike t s e (MappedAlike.Refused 0) → ⊥
-alike_not_zero m = omega (arith, vectors_some m.keeps.0.applies)
+pub alike_not_zero : {t : Tables} {s : Lent} {e : Left} {r : Result AlikeCount Refusal} → MapsAlike t s e r → reply_of r ≡ refusal 0 → ⊥
+alike_not_zero {r = r} m = reply_some r
 
-pub alignable_not_zero : {t : Tables} {s : Lent} {e : Left} → MapsAlignable t s e (MappedAlignable.Refused 0) → ⊥
-alignable_not_zero m = omega (arith, vectors_some m.keeps.0.applies)
+pub alignable_not_zero : {t : Tables} {s : Lent} {e : Left} {r : Result ℕ Refusal} → MapsAlignable t s e r → reply_of r ≡ refusal 0 → ⊥
+alignable_not_zero {r = r} m = reply_some r
 
-module _ {t : Tables} {s : Lent} {p : Pair} {None : Type 0} {Sought : List ℕ → Type 0} where
-  pair_some : {n : ℕ} → PairFault t s p None Sought n → 11 ≤ n
-  pair_some (PairFault.state f) = state_some f
-  pair_some (PairFault.none o) = omega arith
-  pair_some (PairFault.short_list l o h) = omega arith
-
-  pub found_not_zero : {e : Left} → Finds t s p None Sought e (Found.Refused 0) → ⊥
-  found_not_zero m = omega (arith, pair_some m.keeps.0.applies)
+pub found_not_zero : {t : Tables} {s : Lent} {p : Pair} {None : Type 0} {Sought : List ℕ → Type 0} {e : Left} {r : Result ℕ Refusal}
+    → Finds t s p None Sought e r → reply_of r ≡ refusal 0 → ⊥
+found_not_zero {r = r} m = reply_some r
 
 module _ {P : Pair → Type 0} {z : Sizes} {a b : List ℕ} {n m : ℕ} (x : Marks P z a n) (y : Marks P z b m) (long : length a ≡ length b) where
   same_marks : a ≡ b
@@ -83,39 +76,11 @@ calls_unique P Answers one s e f x y r u p q =
     long : length e.written ≡ length f.written
     long = x.written ∙ sym y.written
 
--- the answer from its reply
-alike_of : Reply AlikeCount → MappedAlike
-alike_of (answer x) = MappedAlike.Marked x.count x.round
-alike_of (refusal n) = MappedAlike.Refused n
-
-of_alike : (r : MappedAlike) → alike_of (alike_reply r) ≡ r
-unfolding alike_of
-of_alike (MappedAlike.Marked count round) = refl
-of_alike (MappedAlike.Refused n) = refl
-
-alignable_of : Reply ℕ → MappedAlignable
-alignable_of (answer count) = MappedAlignable.Marked count
-alignable_of (refusal n) = MappedAlignable.Refused n
-
-of_alignable : (r : MappedAlignable) → alignable_of (alignable_reply r) ≡ r
-unfolding alignable_of
-of_alignable (MappedAlignable.Marked count) = refl
-of_alignable (MappedAlignable.Refused n) = refl
-
-found_of : Reply ℕ → Found
-found_of (answer n) = Found.Steps n
-found_of (refusal n) = Found.Refused n
-
-of_found : (r : Found) → found_of (found_reply r) ≡ r
-unfolding found_of
-of_found (Found.Steps n) = refl
-of_found (Found.Refused n) = refl
-
 module _ (t : Tables) (s : Lent) (e f : Left) where
-  pub maps_alike_unique : (r u : MappedAlike) → MapsAlike t s e r → MapsAlike t s f u → (r ≡ u) × (e ≡ f)
+  pub maps_alike_unique : (r u : Result AlikeCount Refusal) → MapsAlike t s e r → MapsAlike t s f u → (r ≡ u) × (e ≡ f)
   maps_alike_unique r u x y =
-      let both = calls_unique (VectorsFault t (room_of s)) (MarksAlike t) one s e f x.tidy y.tidy (alike_reply r) (alike_reply u) x.keeps y.keeps in
-      (sym (of_alike r) ∙ ap alike_of both.0 ∙ of_alike u, both.1)
+      let both = calls_unique (VectorsFault t (room_of s)) (MarksAlike t) one s e f x.tidy y.tidy (reply_of r) (reply_of u) x.keeps y.keeps in
+      (reply_injective r u both.0, both.1)
     where
       one : (l k : List ℕ) → length l ≡ length k → (a b : AlikeCount) → MarksAlike t l a → MarksAlike t k b → (a ≡ b) × (l ≡ k)
       one l k long a b p q =
@@ -123,22 +88,22 @@ module _ (t : Tables) (s : Lent) (e f : Left) where
           let n = round_unique p.round q.round in
           (λ j. record { count = c j; round = n j }, same_marks p.marks q.marks long)
 
-  pub maps_alignable_unique : (r u : MappedAlignable) → MapsAlignable t s e r → MapsAlignable t s f u → (r ≡ u) × (e ≡ f)
+  pub maps_alignable_unique : (r u : Result ℕ Refusal) → MapsAlignable t s e r → MapsAlignable t s f u → (r ≡ u) × (e ≡ f)
   maps_alignable_unique r u x y =
       let both = calls_unique (VectorsFault t (room_of s)) (Marks (AlignableIn t) t.sizes) (λ l k long a b p q. (same_count p q long, same_marks p q long))
-      s e f x.tidy y.tidy (alignable_reply r) (alignable_reply u) x.keeps y.keeps in
-      (sym (of_alignable r) ∙ ap alignable_of both.0 ∙ of_alignable u, both.1)
+      s e f x.tidy y.tidy (reply_of r) (reply_of u) x.keeps y.keeps in
+      (reply_injective r u both.0, both.1)
 
   module _ (p : Pair) where
     finds_unique : (None : Type 0) (Sought : List ℕ → Type 0) → ((a b : List ℕ) → Sought a → Sought b → a ≡ b)
-        → (r u : Found) → Finds t s p None Sought e r → Finds t s p None Sought f u → (r ≡ u) × (e ≡ f)
+        → (r u : Result ℕ Refusal) → Finds t s p None Sought e r → Finds t s p None Sought f u → (r ≡ u) × (e ≡ f)
     finds_unique None Sought unique r u x y =
         let both = calls_unique (PairFault t s p None Sought) (Listed Sought) (λ l k long a b g h. (same_steps unique g h, same_list unique g h long))
-        s e f x.tidy y.tidy (found_reply r) (found_reply u) x.keeps y.keeps in
-        (sym (of_found r) ∙ ap found_of both.0 ∙ of_found u, both.1)
+        s e f x.tidy y.tidy (reply_of r) (reply_of u) x.keeps y.keeps in
+        (reply_injective r u both.0, both.1)
 
-    pub finds_trace_unique : (r u : Found) → FindsTrace t s p e r → FindsTrace t s p f u → (r ≡ u) × (e ≡ f)
+    pub finds_trace_unique : (r u : Result ℕ Refusal) → FindsTrace t s p e r → FindsTrace t s p f u → (r ≡ u) × (e ≡ f)
     finds_trace_unique r u x y = finds_unique (AlikeIn t p) (TraceIn t p) (λ a b g h. picked_unique g h) r u x y
 
-    pub finds_list_unique : (r u : Found) → FindsList t s p e r → FindsList t s p f u → (r ≡ u) × (e ≡ f)
+    pub finds_list_unique : (r u : Result ℕ Refusal) → FindsList t s p e r → FindsList t s p f u → (r ≡ u) × (e ≡ f)
     finds_list_unique r u x y = finds_unique (AlignableIn t p → ⊥) (ListIn t p) (λ a b g h. picked_unique g h) r u x y

@@ -8,20 +8,23 @@ use lib.ListN.{length, take}
 use lib.Seq.{length-take-le}
 use Rattle.numbers.proofs.Order.{not_lt}
 use Rattle.memory.specs.Meaning.Orders.{table_order}
-use Rattle.memory.specs.Meaning.Refusals.{Free, First, Keeps}
+use Rattle.memory.specs.Meaning.Refusals.{number_of, Free, First, Keeps, reply_of}
 use Rattle.memory.specs.Meaning.Slices.{Zero, Cleared}
 use Rattle.memory.specs.Working.Lowest.{place_in}
 use Rattle.memory.proofs.Places.{place_last, first_of_place}
 use Rattle.memory.proofs.Refusals.{first_then}
 use Rattle.memory.proofs.Table.{listed_stands}
-use Rattle.machine.specs.declared.Found.{Found}
+use Rattle.std.proofs.Common.{Result, Err}
+use Rattle.memory.specs.declared.Refusal.{Refusal}
 use Rattle.machine.specs.declared.Pair.{Pair}
 use Rattle.machine.specs.Meaning.Tables.{Tables, AlikeIn, AlignableIn, TraceIn, ListIn}
 use Rattle.places.specs.Working.{Outcome, missing, short, steps, TraceOutcome, ListOutcome}
-use Rattle.machine.specs.Meaning.Lent.{Lent, left_of, Listed, scratch_of}
+use Rattle.machine.specs.Meaning.Lent.{Lent, Left, left_of, Listed, scratch_of}
 use Rattle.machine.specs.Meaning.Faults.{StateFault}
-use Rattle.engine.specs.Meaning.Pairs.{found_reply, PairFault, FindsTrace, FindsList}
+use Rattle.engine.specs.Meaning.Pairs.{PairFault, Finds, FindsTrace, FindsList}
 use Rattle.machine.proofs.Pick.{picked_unique}
+use Rattle.opening.specs.Working.{Emptied}
+use Rattle.opening.proofs.Clearing.{tidy_of}
 use Rattle.opening.proofs.States.{state_place}
 
 place_15 : place_in table_order 15 ≡ 17
@@ -35,13 +38,16 @@ module _ (t : Tables) (s : Lent) (p : Pair) (None : Type 0) (Sought : List ℕ �
   abbrev Wrong : ℕ → Type 0
   Wrong n = PairFault t s p None Sought n
 
-  pub first_state : {n : ℕ} → First (StateFault t (scratch_of s) p) n → First Wrong n
+  first_state : {n : ℕ} → First (StateFault t (scratch_of s) p) n → First Wrong n
   first_state {n} l = first_then (λ m f. PairFault.state f) l (λ m f. go f)
     where
       go : {m : ℕ} → Wrong m → StateFault t (scratch_of s) p m ⊎ (place_in table_order n ≤ place_in table_order m)
       go (PairFault.state f) = inl f
       go (PairFault.none o) = inr (omega (arith, state_place l.applies, place_15))
       go (PairFault.short_list l' o k) = inr (omega (arith, state_place l.applies, place_16))
+
+  pub finds_refused : {e : Left} (x : Refusal) → First (StateFault t (scratch_of s) p) (number_of x) → Emptied s e → Finds t s p None Sought e (Err x)
+  finds_refused x l w = record { keeps = (first_state l, w.written.zero); tidy = tidy_of w }
 
   module _ (free : Free (StateFault t (scratch_of s) p)) where
     first_15 : None → First Wrong 15
@@ -66,8 +72,8 @@ module _ (t : Tables) (s : Lent) (p : Pair) (None : Type 0) (Sought : List ℕ �
     past_16 some fits (PairFault.short_list l o h) = not_lt (fits l o) h
 
     -- what is sought is one list, and the slice was cleared
-    keeps_outcome : ((a b : List ℕ) → Sought a → Sought b → a ≡ b) → {list list' : List ℕ} {r : Found} → Outcome None Sought list list' r
-        → length list ≡ s.written → length list' ≡ s.written → Zero list → Keeps Wrong (Listed Sought list') (Zero list') (found_reply r)
+    keeps_outcome : ((a b : List ℕ) → Sought a → Sought b → a ≡ b) → {list list' : List ℕ} {r : Result ℕ Refusal} → Outcome None Sought list list' r
+        → length list ≡ s.written → length list' ≡ s.written → Zero list → Keeps Wrong (Listed Sought list') (Zero list') (reply_of r)
     keeps_outcome unique (missing none q) e e' z = (first_15 none, rw q z)
     keeps_outcome unique (short some l has h q) e e' z = (first_16 some (PairFault.short_list l has (omega arith)), rw q z)
     keeps_outcome unique {list} {list'} (steps some n fits has same) e e' z = (
@@ -76,7 +82,7 @@ module _ (t : Tables) (s : Lent) (p : Pair) (None : Type 0) (Sought : List ℕ �
     )
 
 -- what a call for a pair promises, once its scratch is cleared: the trace and the list are each one list
-module _ (t : Tables) (s : Lent) (p : Pair) (free : Free (StateFault t (scratch_of s) p)) {list list' : List ℕ} {r : Found} (e : length list ≡ s.written) (e' : length list' ≡ s.written) (z : Zero list)
+module _ (t : Tables) (s : Lent) (p : Pair) (free : Free (StateFault t (scratch_of s) p)) {list list' : List ℕ} {r : Result ℕ Refusal} (e : length list ≡ s.written) (e' : length list' ≡ s.written) (z : Zero list)
     {depth reach : List ℕ} (c : Cleared s.depth depth) (d : Cleared s.reach reach) where
   pub finds_trace : TraceOutcome t p list list' r → FindsTrace t s p (left_of depth reach list') r
   finds_trace o = record {

@@ -7,7 +7,8 @@ use lib.ListN.{length, take}
 use lib.Seq.{length-take-le}
 use Rattle.memory.specs.Meaning.Refusals.{Free}
 use Rattle.memory.proofs.Places.{place_of_first}
-use Rattle.machine.specs.declared.Found.{Found}
+use Rattle.std.proofs.Common.{Result, Err}
+use Rattle.memory.specs.declared.Refusal.TheVariants.{ShortList}
 use Rattle.machine.specs.declared.Pair.{Pair}
 use Rattle.machine.specs.Meaning.Tables.{Tables, pairs, Ok, old_machine, new_machine, TraceIn, ListIn}
 use Rattle.machine.specs.Meaning.Faults.{TablesFault, VectorsFault, StateFault}
@@ -35,11 +36,11 @@ module _ (t : Tables) (s : Lent) (p : Pair) where
 
   module _ {e : Left} where
     -- an answer tells as many steps as its list has
-    steps_most : {Absent : Type 0} {Sought : List ℕ → Type 0} (k n : ℕ) → (None → (l : List ℕ) → Sought l → length l ≤ k) → Finds t s p Absent Sought e (Found.Steps n) → n ≤ k
+    steps_most : {Absent : Type 0} {Sought : List ℕ → Type 0} (k n : ℕ) → (None → (l : List ℕ) → Sought l → length l ≤ k) → Finds t s p Absent Sought e (Result.Ok n) → n ≤ k
     steps_most k n most f = let x = f.keeps.1 in omega (arith, most (λ m w. f.keeps.0 m (PairFault.state w)) (take n e.written) x.sought, length-take-le n e.written x.fits)
 
     -- 16 comes where none of 11 to 14 and 20 applies, and of a list that the slice cannot hold
-    fits_not_16 : {Absent : Type 0} {Sought : List ℕ → Type 0} → (None → (l : List ℕ) → Sought l → length l ≤ s.written) → Finds t s p Absent Sought e (Found.Refused 16) → ⊥
+    fits_not_16 : {Absent : Type 0} {Sought : List ℕ → Type 0} → (None → (l : List ℕ) → Sought l → length l ≤ s.written) → Finds t s p Absent Sought e (Err ShortList) → ⊥
     fits_not_16 {Absent} {Sought} fits f = go f.keeps.0.applies refl
       where
         none : None
@@ -51,20 +52,20 @@ module _ (t : Tables) (s : Lent) (p : Pair) where
         go (PairFault.short_list l w h) q = omega (arith, h, fits none l w)
 
     -- "No trace is longer than S0 + S1 − 1": of what `trace_of` answers
-    pub trace_few : (n : ℕ) → FindsTrace t s p e (Found.Steps n) → n ≤ most_trace t.sizes
+    pub trace_few : (n : ℕ) → FindsTrace t s p e (Result.Ok n) → n ≤ most_trace t.sizes
     trace_few n = steps_most (most_trace t.sizes) n trace_most
 
     -- so a list slice of so many bytes never brings 16
-    pub trace_fits : most_trace t.sizes ≤ s.written → FindsTrace t s p e (Found.Refused 16) → ⊥
+    pub trace_fits : most_trace t.sizes ≤ s.written → FindsTrace t s p e (Err ShortList) → ⊥
     trace_fits room = fits_not_16 (λ none l w. omega (arith, room, trace_most none l w))
 
     -- "a list slice of 255 bytes can never bring 16 when a trace is sought"
-    pub trace_not_16 : trace_room ≤ s.written → FindsTrace t s p e (Found.Refused 16) → ⊥
+    pub trace_not_16 : trace_room ≤ s.written → FindsTrace t s p e (Err ShortList) → ⊥
     trace_not_16 room = fits_not_16 (λ none l w. omega (arith, room, trace_most none l w, tables_trace_room t (tables_free none 11)))
 
     -- what `list_of` answers has fewer steps than there are pairs
-    pub list_few : (n : ℕ) → FindsList t s p e (Found.Steps n) → n ≤ pairs t.sizes - 1
+    pub list_few : (n : ℕ) → FindsList t s p e (Result.Ok n) → n ≤ pairs t.sizes - 1
     list_few n f = omega (arith, steps_most (pairs t.sizes - 1) n list_most f)
 
-    pub list_fits : pairs t.sizes - 1 ≤ s.written → FindsList t s p e (Found.Refused 16) → ⊥
+    pub list_fits : pairs t.sizes - 1 ≤ s.written → FindsList t s p e (Err ShortList) → ⊥
     list_fits room = fits_not_16 (λ none l w. omega (arith, room, list_most none l w))

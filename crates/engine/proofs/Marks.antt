@@ -1,5 +1,5 @@
 -- The marks of alike and of alignable pairs, taken from their maps.
-use Prim.Native.Nat.{ℕ, ◌<◌, ◌≤◌, min}
+use Prim.Native.Nat.{ℕ, ◌<◌}
 use mathlib.Core.Path.{◌≡◌, ◌∙◌}
 use mathlib.Core.Logic.{⊎_elim}
 use mathlib.Core.List.{List}
@@ -20,10 +20,6 @@ use Rattle.places.specs.Working.{Good, MapFor}
 use Rattle.seek.specs.Working.Steps.{MapOf}
 use Rattle.places.proofs.Right.{alike_of_zero, zero_of_alike}
 use Rattle.engine.specs.Meaning.Maps.{Marks}
-
--- what fits the shortest of three fits each
-pub fits_each : {k a b c : ℕ} → k ≤ min a (min b c) → (k ≤ a) × (k ≤ b) × (k ≤ c)
-fits_each h = (omega arith, omega arith, omega arith)
 
 -- the marks of a set are those of any set of the same pairs
 pub marks_there : {P Q : Pair → Type 0} {z : Sizes} {mark : List ℕ} {n : ℕ} → ((p : Pair) → In z p → P p → Q p) → ((p : Pair) → In z p → Q p → P p) → Marks P z mark n → Marks Q z mark n

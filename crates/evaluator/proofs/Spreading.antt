@@ -3,7 +3,7 @@ use Prim.Native.Nat.{ℕ, ◌+◌, ◌-◌, ◌<◌, ◌≤◌}
 use mathlib.Core.Path.{◌≡◌, refl}
 use mathlib.Core.List.{List}
 use native.Mathlib.Omega.{arith}
-use native.Mathlib.Nat.{add_assoc, add-zero}
+use native.Mathlib.Nat.{add_assoc}
 use borrow.Author.Tests.{lt-ltb, le-ltb}
 use lib.ListN.{set, replicate}
 use Rattle.numbers.specs.Meaning.Bits.{bit_of}
@@ -13,10 +13,6 @@ use Rattle.netlist.specs.declared.Design.{Design}
 use Rattle.evaluator.specs.Working.Values.{most_nets}
 use Rattle.netlist.specs.Meaning.Nets.{cell_base, source}
 use Rattle.evaluator.specs.Working.Values.{Spreads}
-
--- a bit more
-pub spread_none : (start width x : ℕ) (l : List ℕ) → Spreads start width x 0 l l
-spread_none start width x l = record { fills = λ f w e. rw add-zero w }
 
 pub spread_more : (start width x j : ℕ) (before after : List ℕ) (y : ℕ) → j < width → start + width ≤ most_nets → y ≡ bit_of width x j
     → Spreads start width x j before after → Spreads start width x (j + 1) before (set after (start + j) y)

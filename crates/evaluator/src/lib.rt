@@ -29,7 +29,6 @@ pub fn step(d: Design, plan: Plan, s: usize, v: usize) -> Stepped
     ensures { (result.next ≡ next_state d s v) × (result.out ≡ outputs d s v) }
 {
     let nothing = Watch {
-        number: 0,
         count: 0,
         nets: [0u16; watched::MOST_WATCHED],
     };
@@ -54,16 +53,11 @@ pub fn observe(d: Design, plan: Plan, watch: Watch, s: usize, v: usize) -> Obser
     ensures { (result.next ≡ next_state d s v) × (result.out ≡ outputs d s v) × (result.seen ≡ watched_in d watch.count watch.nets s v) }
 {
     let vals = values(d, plan, s, v);
-    let data = d.data;
-    let enable = d.enable;
-    let clear = d.clear;
-    let own = 2 + d.inputs as usize;
-    let next = next_word(&data, &enable, &clear, own, d.latches as usize, &vals);
-    let shown = d.shown;
-    let out = word(&shown, d.outputs as usize, &vals);
-    let nets = watch.nets;
-    let seen = word(&nets, watch.count, &vals);
-    Observed { next, out, seen }
+    Observed {
+        next: next_word(&d, &vals),
+        out: word(&d.shown, usize::from(d.outputs), &vals),
+        seen: word(&watch.nets, watch.count, &vals),
+    }
 }
 
 // How many numbers n bits have.
@@ -79,16 +73,11 @@ fn values(d: Design, plan: Plan, s: usize, v: usize) -> [u8; Image::MOST_NETS]
     requires { Evaluable d plan.kept plan.cells }
     ensures { Holds (value d s v) result }
 {
-    let base = 2 + d.inputs as usize + d.latches as usize;
-    let kept = plan.kept;
+    let base = d.cell_base();
     let mut vals = sources(d, s, v);
-    let mut k = 0;
-    while k < kept {
-        let i = plan.cells[k] as usize;
-        let c = d.cells[i];
-        let g = c.gate;
-        vals[base + i] = gate_value(g, &vals);
-        k += 1;
+    for k in 0..plan.kept {
+        let i = usize::from(plan.cells[k]);
+        vals[base + i] = gate_value(d.cells[i].gate, &vals);
     }
     vals
 }
@@ -98,8 +87,8 @@ fn sources(d: Design, s: usize, v: usize) -> [u8; Image::MOST_NETS]
     requires { Sound d }
     ensures { Filled (source d s v) 0 most_nets (cell_base d) result }
 {
-    let inputs = d.inputs as usize;
-    let latches = d.latches as usize;
+    let inputs = usize::from(d.inputs);
+    let latches = usize::from(d.latches);
     let mut vals = [0u8; Image::MOST_NETS];
     vals[0] = 0;
     vals[1] = 1;
@@ -110,56 +99,49 @@ fn sources(d: Design, s: usize, v: usize) -> [u8; Image::MOST_NETS]
 
 // Puts the bits of a number, the most significant first, at the nets from a start on.
 fn spread(vals: &mut [u8; Image::MOST_NETS], start: usize, width: usize, number: usize)
-    requires { (start + width ≤ most_nets) × (width ≤ 8) }
+    requires room { start + width ≤ most_nets }
+    requires few { width ≤ 8 }
     ensures { Spreads start width number width vals.old vals.new }
 {
-    let mut j = 0;
-    while j < width {
+    for j in 0..width {
         let weight = width - (j + 1);
         vals[start + j] = ((number >> weight) % 2) as u8;
-        j += 1;
     }
 }
 
 // What a gate makes of the values of the nets that it reads: of two values AND, OR or XOR, or one of these inverted.
 fn gate_value(g: Gate, vals: &[u8; Image::MOST_NETS]) -> u8
-    requires { (first_of g < most_nets) × (second_of g < most_nets) × ((n : ℕ) → get_or vals.now n 0 < 2) }
+    requires first { first_of g < most_nets }
+    requires second { second_of g < most_nets }
+    requires bits { (n : ℕ) → get_or vals.now n 0 < 2 }
     ensures { result ≡ gate_value g (λ n. get_or vals.now n 0) }
 {
+    let at = |net: u16| vals[usize::from(net)];
     match g {
-        Gate::Buf(a) => vals[a as usize],
-        Gate::Not(a) => vals[a as usize] ^ 1,
-        Gate::And(a, b) => vals[a as usize] & vals[b as usize],
-        Gate::Or(a, b) => vals[a as usize] | vals[b as usize],
-        Gate::Xor(a, b) => vals[a as usize] ^ vals[b as usize],
-        Gate::Nand(a, b) => (vals[a as usize] & vals[b as usize]) ^ 1,
-        Gate::Nor(a, b) => (vals[a as usize] | vals[b as usize]) ^ 1,
-        Gate::Xnor(a, b) => vals[a as usize] ^ vals[b as usize] ^ 1,
+        Gate::Buf(a) => at(a),
+        Gate::Not(a) => at(a) ^ 1,
+        Gate::And(a, b) => at(a) & at(b),
+        Gate::Or(a, b) => at(a) | at(b),
+        Gate::Xor(a, b) => at(a) ^ at(b),
+        Gate::Nand(a, b) => (at(a) & at(b)) ^ 1,
+        Gate::Nor(a, b) => (at(a) | at(b)) ^ 1,
+        Gate::Xnor(a, b) => at(a) ^ at(b) ^ 1,
     }
 }
 
-// The number that n flip-flops hold after the clock, the first most significant. `own` is the net of the first.
-fn next_word(
-    data: &[u16],
-    enable: &[u16],
-    clear: &[u16],
-    own: usize,
-    n: usize,
-    vals: &[u8; Image::MOST_NETS],
-) -> u8
-    requires { Latchable «data».now enable.now clear.now own n vals.now }
-    ensures { result ≡ horner (latched_in «data».now enable.now clear.now own vals.now) n }
+// The number that the flip-flops hold after the clock, the first most significant.
+fn next_word(d: &Design, vals: &[u8; Image::MOST_NETS]) -> u8
+    requires { Latchable d.now.«data» d.now.enable d.now.clear (2 + d.now.inputs) d.now.latches vals.now }
+    ensures { result ≡ horner (latched_in d.now.«data» d.now.enable d.now.clear (2 + d.now.inputs) vals.now) d.now.latches }
 {
-    let mut r: u8 = 0;
-    let mut k = 0;
-    while k < n {
-        let c = value_of(clear, k, vals);
-        let e = value_of(enable, k, vals);
-        let x = value_of(data, k, vals);
-        r = r * 2 + latch(c, e, x, vals[own + k]);
-        k += 1;
-    }
-    r
+    let own = 2 + usize::from(d.inputs);
+    let bit = |k: usize| {
+        let clear = value_of(&d.clear, k, vals);
+        let enable = value_of(&d.enable, k, vals);
+        let data = value_of(&d.data, k, vals);
+        u16::from(latch(clear, enable, data, vals[own + k]))
+    };
+    numbers::spelled(usize::from(d.latches), bit) as u8
 }
 
 // The value of the net at a place of a list.
@@ -167,8 +149,7 @@ fn value_of(nets: &[u16], k: usize, vals: &[u8; Image::MOST_NETS]) -> u8
     requires { get_or nets.now k 0 < most_nets }
     ensures { result ≡ get_or vals.now (get_or nets.now k 0) 0 }
 {
-    let net = netlist::net_at(nets, k);
-    vals[net]
+    vals[netlist::net_at(nets, k)]
 }
 
 // What a flip-flop that holds a bit makes of its three values.
@@ -176,12 +157,12 @@ fn latch(clear: u8, enable: u8, data: u8, held: u8) -> u8
     ensures { result ≡ latched clear enable «data» held }
 {
     if clear != 0 {
-        return 0;
+        0
+    } else if enable != 0 {
+        data
+    } else {
+        held
     }
-    if enable != 0 {
-        return data;
-    }
-    held
 }
 
 // The number that the values of the first n nets of a list spell, the first net most significant.
@@ -189,11 +170,5 @@ fn word(nets: &[u16], n: usize, vals: &[u8; Image::MOST_NETS]) -> u8
     requires { Readable nets.now n vals.now }
     ensures { result ≡ horner (λ k. get_or vals.now (get_or nets.now k 0) 0) n }
 {
-    let mut r: u8 = 0;
-    let mut k = 0;
-    while k < n {
-        r = r * 2 + value_of(nets, k, vals);
-        k += 1;
-    }
-    r
+    numbers::spelled(n, |k| u16::from(value_of(nets, k, vals))) as u8
 }

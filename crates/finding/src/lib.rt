@@ -1,71 +1,63 @@
 // The trace or list of one pair, by a map that is right.
 #![tactic(auto)]
 
-ghost use Rattle.memory.specs.Meaning.Tables.{table_of};
 ghost use Rattle.std.specs.Prelude.{◌≡◌, ◌≤◌, length};
-ghost use Rattle.machine.specs.Meaning.Tables.{pairs, at, In, tables_of};
+ghost use Rattle.machine.specs.Meaning.Tables.{pairs, at, In, tables_in};
 ghost use Rattle.machine.specs.Working.Pairs.{DiffersIn};
-ghost use Rattle.places.specs.Working.{Walk, Ready, Good, MapFor, ListTo, Outcome, TraceOutcome};
+ghost use Rattle.places.specs.Working.{WalkIn, ReadyIn, Good, MapFor, ListToIn, Outcome, TraceOutcome};
 
-use machine::{Found, Pair, Prior, Sizes};
+use machine::{Pair, TablesRef};
+use memory::Refusal;
 
-// The trace of the pair p, by the map of the lists to pairs that show a difference.
+// The trace of the pair p, by the map of the lists to pairs that show a difference: how many steps it has.
 pub fn find_trace(
-    old_next: &[u8],
-    old_out: &[u8],
-    old_seen: &[u8],
-    new_next: &[u8],
-    new_out: &[u8],
-    new_seen: &[u8],
-    sizes: Sizes,
+    tables: &TablesRef<'_>,
     p: Pair,
     map: &[u16],
     list: &mut [u8],
-) -> Found
-    requires good { Good (tables_of sizes (table_of old_next.now old_out.now old_seen.now) (table_of new_next.now new_out.now new_seen.now)) }
-    requires sizes_in_bounds { pairs sizes ≤ length map.now }
-    requires map_for { MapFor (tables_of sizes (table_of old_next.now old_out.now old_seen.now) (table_of new_next.now new_out.now new_seen.now))
-        (DiffersIn (tables_of sizes (table_of old_next.now old_out.now old_seen.now) (table_of new_next.now new_out.now new_seen.now))) map.now }
-    requires fact { In sizes p }
-    ensures { TraceOutcome (tables_of sizes (table_of old_next.now old_out.now old_seen.now) (table_of new_next.now new_out.now new_seen.now)) p list.old list.new result }
+) -> Result<usize, Refusal>
+    requires good { Good (tables_in tables.now) }
+    requires sizes_in_bounds { pairs tables.now.sizes ≤ length map.now }
+    requires map_for { MapFor (tables_in tables.now) (DiffersIn (tables_in tables.now)) map.now }
+    requires pair_in { In tables.now.sizes p }
+    ensures { TraceOutcome (tables_in tables.now) p list.old list.new result }
 {
-    let steps = places::map_at(sizes, map, p);
+    let steps = places::map_at(tables.sizes, map, p);
     if steps == 0 {
-        return Found::Refused(15);
+        return Err(Refusal::NothingSought);
     }
     if list.len() < steps {
-        return Found::Refused(16);
+        return Err(Refusal::ShortList);
     }
-    let end = descent::descend(old_next, new_next, sizes, map, p, Prior::Start, list);
+    let end = descent::descend(tables, map, p, None, list);
     let prior = places::prior_at(list, steps - 1);
-    let v = flags::chosen_different(old_out, old_seen, new_out, new_seen, sizes, end, prior);
-    list[steps - 1] = places::narrow(v);
-    Found::Steps(steps)
+    let Some(v) = flags::chosen_different(tables, end, prior) else {
+        unreachable!();
+    };
+    list[steps - 1] = v as u8;
+    Ok(steps)
 }
 
 // The list from the pair p to a pair for which the map holds 1; for p it holds one more than the steps of this list.
 pub fn find_list(
-    old_next: &[u8],
-    new_next: &[u8],
-    sizes: Sizes,
+    tables: &TablesRef<'_>,
     p: Pair,
-    prior: Prior,
+    prior: Option<usize>,
     map: &[u16],
     list: &mut [u8],
-) -> Found
-    requires walk { Walk sizes old_next.now new_next.now map.now }
-    requires ready { Ready sizes old_next.now new_next.now map.now }
-    requires fact { In sizes p }
-    ensures { Outcome (at sizes map.now p ≡ 0) (ListTo sizes old_next.now new_next.now map.now prior p)
-        list.old list.new result }
+) -> Result<usize, Refusal>
+    requires walk { WalkIn (tables_in tables.now) map.now }
+    requires ready { ReadyIn (tables_in tables.now) map.now }
+    requires pair_in { In tables.now.sizes p }
+    ensures { Outcome (at tables.now.sizes map.now p ≡ 0) (ListToIn (tables_in tables.now) map.now prior p) list.old list.new result }
 {
-    let above = places::map_at(sizes, map, p);
+    let above = places::map_at(tables.sizes, map, p);
     if above == 0 {
-        return Found::Refused(15);
+        return Err(Refusal::NothingSought);
     }
     if list.len() < above - 1 {
-        return Found::Refused(16);
+        return Err(Refusal::ShortList);
     }
-    descent::descend(old_next, new_next, sizes, map, p, prior, list);
-    Found::Steps(above - 1)
+    descent::descend(tables, map, p, prior, list);
+    Ok(above - 1)
 }

@@ -1,15 +1,18 @@
 -- The numbers from 5 on, in their order, where none of the header applies.
 use Prim.Native.Nat.{ℕ, ◌+◌, ◌-◌, ◌*◌, ◌<◌, ◌≤◌}
-use mathlib.Core.Path.{◌≡◌, sym, ◌∙◌, subst}
+use mathlib.Core.Path.{◌≡◌, sym, ◌∙◌, ap, subst}
 use mathlib.Core.Logic.{◌⊎◌, inl, inr, ⊎_elim}
 use mathlib.Core.List.{List}
 use native.Mathlib.Omega.{arith}
-use native.Mathlib.Decide.{ℕ_discrete}
 use lib.Dec.{lit≤}
 use lib.ListN.{length}
 use Rattle.numbers.proofs.Order.{stable}
-use Rattle.memory.specs.Meaning.Refusals.{Free, FirstOrNone}
-use Rattle.memory.proofs.Refusals.{Clean, clean_more, no_number}
+use Rattle.std.specs.Prelude.{Result, Ok, Err}
+use Rattle.memory.specs.declared.Refusal.{Refusal}
+use Rattle.memory.specs.declared.Refusal.TheVariants.{NetOver}
+use Rattle.memory.specs.Meaning.Refusals.{number_of, Free, First, Checked}
+use Rattle.memory.proofs.Checked.{number_injective}
+use Rattle.memory.proofs.Refusals.{Clean, clean_more}
 use Rattle.memory.proofs.Table.{lowest_of_first}
 use Rattle.netlist.specs.Meaning.Faults.{DesignFault}
 use Rattle.netlist.proofs.Numbers.{Kind, three, five, nine, kind, design_numbered}
@@ -49,47 +52,41 @@ module _ (b : List ℕ) (w : Decodes b (decoded b)) where
   pub needed_version : (ImageFault b 2 → ⊥) → (ImageFault b 19 → ⊥) → version_in b ≡ version_of (decoded b)
   needed_version two none = stable _ _ (λ z. none (needless two z))
 
-module _ (b : List ℕ) (head : Free (HeaderFault b)) (n : ℕ) (found : FirstOrNone (DesignFault (decoded b)) n) where
+module _ (b : List ℕ) (head : Free (HeaderFault b)) where
   w : Decodes b (decoded b)
   w = decodes b (within_limits head)
 
   no_design_3 : DesignFault (decoded b) 3 → ⊥
   no_design_3 f = head 3 (image_3 b (decoded b) w f, lit≤ tt)
 
-  -- the design's number is 0, 5 or 9
-  some_found : (n ≡ 0 → ⊥) → (n ≡ 5 → ⊥) → (n ≡ 9) × DesignFault (decoded b) 9
-  some_found z q = go (kind (found.some z).applies)
+  -- where a call that looks for 3, 5 and 9 in the design does not say 5, 5 does not apply
+  pub no_read : (r : Result (Unit {0}) Refusal) → Checked (DesignFault (decoded b)) r → (r ≡ Err NetOver → ⊥) → DesignFault (decoded b) 5 → ⊥
+  no_read (Ok _) found q f = found 5 f
+  no_read (Err r) found q f = go (kind found.applies)
     where
-      go : Kind (decoded b) n → (n ≡ 9) × DesignFault (decoded b) 9
-      go (three e f) = absurd (no_design_3 f)
-      go (five e f) = absurd (q e)
-      go (nine e l) = (e, DesignFault.loop l.0 l.1 l.2)
+      go : Kind (decoded b) (number_of r) → ⊥
+      go (three e g) = no_design_3 g
+      go (five e g) = q (ap (λ (x : Refusal). Err x) (number_injective r NetOver e))
+      go (nine e l) = (lowest_of_first design_numbered found).lower 5 (omega (arith, e)) f
 
-  no_design_5 : (n ≡ 5 → ⊥) → DesignFault (decoded b) 5 → ⊥
-  no_design_5 q f = go (ℕ_discrete n 0)
-    where
-      go : Dec (n ≡ 0) → ⊥
-      go (yes e) = found.none e 5 f
-      go (no e) = (lowest_of_first design_numbered (found.some e)).lower 5 (omega (arith, (some_found e q).0)) f
+  pub five_read : First (DesignFault (decoded b)) 5 → First (ImageFault b) 5
+  five_read f = refused 5 (image_5 b (decoded b) w f.applies) (clean_5 head)
 
-  pub five_read : n ≡ 5 → FirstOrNone (ImageFault b) 5
-  five_read e = refused 5 (image_5 b (decoded b) w (rw e at (found.some (λ q. omega arith)).applies)) (clean_5 head)
-
-  pub five_unread : UnreadAbove b (nets_in b - 1) → FirstOrNone (ImageFault b) 5
+  pub five_unread : UnreadAbove b (nets_in b - 1) → First (ImageFault b) 5
   five_unread u = refused 5 (ImageFault.second u.cell u.within (omega (arith, u.above))) (clean_5 head)
 
-  module _ (q : n ≡ 5 → ⊥) (low : UnreadBelow b (nets_in b - 1) (count_in b)) where
+  module _ (read : DesignFault (decoded b) 5 → ⊥) (low : UnreadBelow b (nets_in b - 1) (count_in b)) where
     clean_6 : Clean (ImageFault b) 6
-    clean_6 = clean_more (ImageFault b) 5 (clean_5 head) (no_5 b (decoded b) w (λ i h k. omega (arith, low i h k)) (no_design_5 q))
+    clean_6 = clean_more (ImageFault b) 5 (clean_5 head) (no_5 b (decoded b) w (λ i h k. omega (arith, low i h k)) read)
 
-    pub six : UnreadAbove b 0 → FirstOrNone (ImageFault b) 6
+    pub six : UnreadAbove b 0 → First (ImageFault b) 6
     six u = refused 6 (ImageFault.unread u.cell u.within u.one_net (λ e. omega (arith, u.above))) clean_6
 
     module _ (zero : UnreadBelow b 0 (count_in b)) where
       clean_7 : Clean (ImageFault b) 7
       clean_7 = clean_more (ImageFault b) 6 clean_6 (no_6 (λ i h k. omega (arith, zero i h k)))
 
-      pub seven : (field_at b (bits_in b) (8 * bytes_in b - bits_in b) ≡ 0 → ⊥) → FirstOrNone (ImageFault b) 7
+      pub seven : (field_at b (bits_in b) (8 * bytes_in b - bits_in b) ≡ 0 → ⊥) → First (ImageFault b) 7
       seven f =
           let r = field_some b (bits_in b) (8 * bytes_in b - bits_in b) f in
           refused 7 (ImageFault.pad (bits_in b + r.0) (omega arith) (omega (arith, r.1)) r.2) clean_7
@@ -103,28 +100,32 @@ module _ (b : List ℕ) (head : Free (HeaderFault b)) (n : ℕ) (found : FirstOr
         clean_8 : Clean (ImageFault b) 8
         clean_8 = clean_more (ImageFault b) 7 clean_7 (no_7 no_pad)
 
-        pub eight : bytes_in b < length b → FirstOrNone (ImageFault b) 8
+        pub eight : bytes_in b < length b → First (ImageFault b) 8
         eight l = refused 8 (ImageFault.over l) clean_8
 
         module _ (l : length b ≤ bytes_in b) where
           clean_9 : Clean (ImageFault b) 9
           clean_9 = clean_more (ImageFault b) 8 clean_8 (no_8 l)
 
-          pub loops : (n ≡ 0 → ⊥) → FirstOrNone (ImageFault b) n
-          loops e =
-              let s = some_found e q in
-              subst (λ (k : ℕ). FirstOrNone (ImageFault b) k) (sym s.0) (refused 9 (of_loop s.1) clean_9)
+          -- what is found is then 9
+          pub loops : {n : ℕ} → First (DesignFault (decoded b)) n → First (ImageFault b) n
+          loops {n} f = go (kind f.applies)
+            where
+              go : Kind (decoded b) n → First (ImageFault b) n
+              go (three e g) = absurd (no_design_3 g)
+              go (five e g) = absurd (read g)
+              go (nine e k) = rw e (refused 9 (of_loop (DesignFault.loop k.0 k.1 k.2)) clean_9)
 
-          module _ (e : n ≡ 0) where
+          module _ (none : Free (DesignFault (decoded b))) where
             clean_10 : Clean (ImageFault b) 10
-            clean_10 = clean_more (ImageFault b) 9 clean_9 (λ p. found.none e 9 (loop_of p))
+            clean_10 = clean_more (ImageFault b) 9 clean_9 (λ p. none 9 (loop_of p))
 
             -- no number lies between 9 and 19
             clean_19 : Clean (ImageFault b) 19
             clean_19 m h f = ⊎_elim (λ k. clean_10 m k f) (λ p. omega (arith, p.0)) (small f)
 
-            pub nineteen : (version_in b ≡ version_of (decoded b) → ⊥) → FirstOrNone (ImageFault b) 19
+            pub nineteen : (version_in b ≡ version_of (decoded b) → ⊥) → First (ImageFault b) 19
             nineteen z = refused 19 (needless b w (clean_5 head 2 (omega arith)) z) clean_19
 
-            pub no_fault : version_in b ≡ version_of (decoded b) → FirstOrNone (ImageFault b) 0
-            no_fault z = no_number (λ m f. ⊎_elim (λ k. clean_10 m k f) (λ p. not_needless b w z p.1) (small f))
+            pub no_fault : version_in b ≡ version_of (decoded b) → Free (ImageFault b)
+            no_fault z m f = ⊎_elim (λ k. clean_10 m k f) (λ p. not_needless b w z p.1) (small f)

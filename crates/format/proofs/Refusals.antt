@@ -11,10 +11,10 @@ use borrow.Author.Tests.{lt-ltb}
 use lib.Dec.{T, ltb, eqb, lit<, lit≤}
 use lib.ListN.{length}
 use Rattle.numbers.proofs.Order.{not_lt, le_of_not_lt}
-use Rattle.memory.specs.Meaning.Refusals.{Free, FirstOrNone}
+use Rattle.memory.specs.Meaning.Refusals.{Free, First}
 use Rattle.memory.specs.Working.Lowest.{Numbered}
-use Rattle.memory.proofs.Refusals.{Clean, clean_more, lowest_number, no_number}
-use Rattle.memory.proofs.Table.{numbered_by, numbered_of}
+use Rattle.memory.proofs.Refusals.{Clean, clean_more}
+use Rattle.memory.proofs.Table.{numbered_by, numbered_of, first_of_lowest}
 use Rattle.reader.specs.Meaning.Fields.{bit_at}
 use Rattle.format.specs.Meaning.Format.{version_in, count_in, bits_in, bytes_in, kind_in, second_in}
 use Rattle.format.specs.Meaning.Faults.{ImageFault, HeaderFault}
@@ -63,8 +63,8 @@ image_numbered {b} = numbered_by of_image 20 tt tt (λ n f. among n f (small f))
 pub header_numbered : {b : List ℕ} → Numbered (HeaderFault b)
 header_numbered = numbered_of (λ n f. f.0) image_numbered
 
-pub refused : {b : List ℕ} (n : ℕ) → ImageFault b n → Clean (ImageFault b) n → FirstOrNone (ImageFault b) n
-refused n p c = lowest_number image_numbered (record { applies = p; lower = c })
+pub refused : {b : List ℕ} (n : ℕ) → ImageFault b n → Clean (ImageFault b) n → First (ImageFault b) n
+refused n p c = first_of_lowest image_numbered (record { applies = p; lower = c })
 
 -- when each number does not apply
 pub no_1 : {b : List ℕ} → 4 ≤ length b → ImageFault b 1 → ⊥
@@ -113,11 +113,11 @@ pub clean_4 : {b : List ℕ} → 4 ≤ length b → (version_in b ≡ 1) ⊎ (ve
 clean_4 {b} h v s = clean_more (ImageFault b) 3 (clean_3 h v) s
 
 -- a number of the header
-pub head : {b : List ℕ} (n : ℕ) → n ≤ 4 → ImageFault b n → Clean (ImageFault b) n → FirstOrNone (HeaderFault b) n
-head n h f c = lowest_number header_numbered (record { applies = (f, h); lower = λ m l g. c m l g.0 })
+pub head : {b : List ℕ} (n : ℕ) → n ≤ 4 → ImageFault b n → Clean (ImageFault b) n → First (HeaderFault b) n
+head n h f c = first_of_lowest header_numbered (record { applies = (f, h); lower = λ m l g. c m l g.0 })
 
-pub no_head : {b : List ℕ} → Clean (ImageFault b) 4 → (ImageFault b 4 → ⊥) → FirstOrNone (HeaderFault b) 0
-no_head {b} c e = no_number (λ m f. clean_more (ImageFault b) 4 c e m (omega (arith, f.1)) f.0)
+pub no_head : {b : List ℕ} → Clean (ImageFault b) 4 → (ImageFault b 4 → ⊥) → Free (HeaderFault b)
+no_head {b} c e m f = clean_more (ImageFault b) 4 c e m (omega (arith, f.1)) f.0
 
 -- what the header's refusals leave
 module _ {b : List ℕ} (h : Free (HeaderFault b)) where

@@ -1,2 +1,3 @@
 -- Definitions that only inner contracts and proofs cite.
+pub mod Widths
 pub mod Scanning

@@ -1,103 +1,89 @@
 // What is wrong with an image.
 ghost use Rattle.std.specs.Prelude.{◌≡◌, ◌⊎◌, List, ℕ, ◌+◌, ◌-◌, ◌*◌, ◌^◌, ◌<◌, ◌≤◌, length};
-ghost use Rattle.memory.specs.Meaning.Refusals.{Free, FirstOrNone};
-ghost use Rattle.memory.specs.Working.Tests.{Tells, Splits};
+ghost use Rattle.memory.specs.Meaning.Refusals.{Free, Checked};
+ghost use Rattle.memory.specs.Working.Tests.{Splits};
 ghost use Rattle.netlist.specs.Meaning.Faults.{DesignFault};
 ghost use Rattle.format.specs.Meaning.Version.{version_of};
 ghost use Rattle.limits.specs.Meaning.Layout.{count_bits};
 ghost use Rattle.reader.specs.Meaning.Fields.{field_at};
 ghost use Rattle.format.specs.Meaning.Format.{decoded, count_in};
 ghost use Rattle.format.specs.Meaning.Faults.{ImageFault, HeaderFault};
-ghost use Rattle.format.specs.Working.Scanning.{Narrow, SpellsHeader, UnreadAbove, UnreadBelow};
+ghost use Rattle.format.specs.Working.Scanning.{SpellsHeader, UnreadAbove, UnreadBelow};
 
 use crate::fields;
-use crate::fields::Header;
-use limits::Image;
+use crate::header::Header;
+use memory::Refusal;
 
-// The lowest number up to 4 that applies to an image of so many bytes with this header, or 0.
-pub fn header_fault(bytes: usize, h: Header) -> u8
-    requires { Narrow h }
-    ensures { (b : List ℕ) → length b ≡ bytes → SpellsHeader b h → FirstOrNone (HeaderFault b) result }
+// The lowest number up to 4 that applies to an image of so many bytes with this header.
+pub fn header_fault(bytes: usize, h: Header) -> Result<(), Refusal>
+    ensures { (b : List ℕ) → length b ≡ bytes → SpellsHeader b h → Checked (HeaderFault b) result }
 {
     if bytes < 4 {
-        return 1;
+        return Err(Refusal::FewBytes);
     }
     if other_version(h.version) {
-        return 2;
+        return Err(Refusal::OtherVersion);
     }
-    if over_limit(h) {
-        return 3;
+    if h.sizes().over_limit() {
+        return Err(Refusal::SizeOver);
     }
-    if bytes < fields::bytes(h) {
-        return 4;
+    if bytes < h.bytes() {
+        return Err(Refusal::EndsEarly);
     }
-    0
+    Ok(())
 }
 
 // Whether a version is neither 1 nor 2.
 fn other_version(version: u16) -> bool
     ensures { Splits result ((version ≡ 1 → ⊥) × (version ≡ 2 → ⊥)) ((version ≡ 1) ⊎ (version ≡ 2)) }
 {
-    if version == 1 {
-        return false;
-    }
-    if version == 2 {
-        return false;
-    }
-    true
+    version != 1 && version != 2
 }
 
-fn over_limit(h: Header) -> bool
-    ensures { (b : List ℕ) → SpellsHeader b h → Tells result (ImageFault b 3) }
-{
-    if h.inputs as usize > Image::MOST_INPUTS {
-        return true;
-    }
-    if h.latches as usize > Image::MOST_LATCHES {
-        return true;
-    }
-    if h.outputs as usize > Image::MOST_OUTPUTS {
-        return true;
-    }
-    if h.count as usize > Image::MOST_CELLS {
-        return true;
-    }
-    false
-}
-
-// The first number that applies to an image whose header is sound, or 0. `found` is what its design was found to have: that is 5 for
+// The first number that applies to an image whose header is sound. `found` is what its design was found to have: that is 5 for
 // a net that is read, and 9; `needed` is the version that the design needs. Nets that no cell reads, the pad, the length and a version
 // that is not needed are left to look at.
-pub fn field_fault(image: &[u8], h: Header, found: u8, needed: u16) -> u8
-    requires { (SpellsHeader image.now h)
-        × ((Free (HeaderFault image.now))
-        × ((FirstOrNone (DesignFault (decoded image.now)) found) × (needed ≡ version_of (decoded image.now)))) }
-    ensures { FirstOrNone (ImageFault image.now) result }
+pub fn field_fault(
+    image: &[u8],
+    h: Header,
+    found: Result<(), Refusal>,
+    needed: u16,
+) -> Result<(), Refusal>
+    requires spelled { SpellsHeader image.now h }
+    requires sound { Free (HeaderFault image.now) }
+    requires found { Checked (DesignFault (decoded image.now)) found }
+    requires needed { needed ≡ version_of (decoded image.now) }
+    ensures { Checked (ImageFault image.now) result }
 {
-    if found == 5 {
-        return 5;
+    if net_over(found) {
+        return Err(Refusal::NetOver);
     }
-    let count = h.count as usize;
-    if unread_above(image, count, fields::nets(h) - 1) {
-        return 5;
+    let count = usize::from(h.count);
+    if unread_above(image, count, h.nets() - 1) {
+        return Err(Refusal::NetOver);
     }
     if unread_above(image, count, 0) {
-        return 6;
+        return Err(Refusal::UnreadNet);
     }
-    let bytes = fields::bytes(h);
-    if pad(image, fields::bits(h), bytes) != 0 {
-        return 7;
+    let bytes = h.bytes();
+    if pad(image, h.bits(), bytes) != 0 {
+        return Err(Refusal::PadSet);
     }
     if image.len() > bytes {
-        return 8;
+        return Err(Refusal::BytesLeft);
     }
-    if found != 0 {
-        return found;
-    }
+    found?;
     if h.version != needed {
-        return 19;
+        return Err(Refusal::NeedlessVersion);
     }
-    0
+    Ok(())
+}
+
+// Whether a design was found to have a net out of range.
+fn net_over(found: Result<(), Refusal>) -> bool
+    ensures { Splits result (found ≡ Err Refusal.NetOver) (found ≡ Err Refusal.NetOver → ⊥) }
+{
+    matches!(found, Err(Refusal::NetOver))
 }
 
 // The number that the bits from `end` to the end of the image's last byte spell.
@@ -105,8 +91,7 @@ fn pad(image: &[u8], end: usize, bytes: usize) -> u16
     requires { (end ≤ 8 * bytes) × ((8 * bytes < end + 8) × (bytes ≤ 2048)) }
     ensures { result ≡ field_at image.now end (8 * bytes - end) }
 {
-    let taken = reader::run(image, end, 8 * bytes - end, 0, 0, 0, 0);
-    taken.first
+    reader::run(image, end, 8 * bytes - end, 0, 0, 0, 0).first
 }
 
 // Whether the second net of some cell that reads one net is above `most`; there are `count` cells.
@@ -114,11 +99,10 @@ fn unread_above(image: &[u8], count: usize, most: u16) -> bool
     requires { (count ≡ count_in image.now) × (count < 2 ^ count_bits) }
     ensures { Splits result (UnreadAbove image.now most) (UnreadBelow image.now most (count_in image.now)) }
 {
-    let mut i = 0;
-    while i < count {
+    for i in 0..count {
         let cell = fields::cell(image, i);
-        let kind = cell.kind;
-        match kind {
+        // By ranges, as document 01 has the kinds.
+        match cell.kind {
             0..=1 => {
                 if cell.second > most {
                     return true;
@@ -127,7 +111,6 @@ fn unread_above(image: &[u8], count: usize, most: u16) -> bool
             2..=7 => {}
             _ => {}
         }
-        i += 1;
     }
     false
 }

@@ -3,4 +3,5 @@
 
 pub mod faults;
 pub mod fields;
+pub mod header;
 pub mod version;

@@ -1,6 +1,6 @@
 // Which version the image of a design has.
-ghost use Rattle.std.specs.Prelude.{◌≡◌};
-ghost use Rattle.format.specs.Meaning.Version.{plain_to, version_of};
+ghost use Rattle.std.specs.Prelude.{◌≡◌, ◌<◌, ◌↔◌, ℕ, IsTrue, get_or};
+ghost use Rattle.format.specs.Meaning.Version.{version_of};
 
 use netlist::Design;
 
@@ -8,26 +8,15 @@ use netlist::Design;
 pub fn version_of(d: Design) -> u16
     ensures { result ≡ version_of d }
 {
-    let enable = d.enable;
-    let clear = d.clear;
-    if plain_to(&enable, &clear, d.latches as usize) {
-        return 1;
+    if plain_to(&d.enable, &d.clear, usize::from(d.latches)) {
+        1
+    } else {
+        2
     }
-    2
 }
 
 fn plain_to(enable: &[u16], clear: &[u16], n: usize) -> bool
-    ensures { result ≡ plain_to enable.now clear.now n }
+    ensures { IsTrue result ↔ ((k : ℕ) → k < n → (get_or enable.now k 0 ≡ 1) × (get_or clear.now k 0 ≡ 0)) }
 {
-    let mut k = 0;
-    while k < n {
-        if netlist::net_at(enable, k) != 1 {
-            return false;
-        }
-        if netlist::net_at(clear, k) != 0 {
-            return false;
-        }
-        k += 1;
-    }
-    true
+    (0..n).all(|k| netlist::net_at(enable, k) == 1 && netlist::net_at(clear, k) == 0)
 }

@@ -6,11 +6,11 @@ use native.Mathlib.Omega.{arith}
 use lib.ListN.{length, take, drop, length-drop}
 use lib.Seq.{take_all}
 use Rattle.numbers.proofs.Order.{le_of_not_lt}
-use Rattle.memory.specs.Meaning.Refusals.{Free, First}
+use Rattle.std.proofs.Common.{Ok, Err}
+use Rattle.memory.specs.declared.Refusal.{Refusal}
+use Rattle.memory.specs.Meaning.Refusals.{number_of, Free, First}
 use Rattle.format.specs.Meaning.Faults.{ImageFault}
 use Rattle.format.specs.Meaning.Front.{FrontRefused, FrontAccepted}
-use Rattle.image.specs.declared.Length.{Length}
-use Rattle.image.specs.declared.Answer.{Answer}
 use Rattle.image.specs.declared.Reading.{Reading}
 use Rattle.image.specs.Meaning.Reading.{Measures, ReadsImage}
 
@@ -19,19 +19,19 @@ pub rest : (m : ℕ) (b : List ℕ) → take (length b - m) (drop m b) ≡ drop 
 rest m b = take_all (length b - m) (drop m b) (omega (arith, length-drop m b))
 
 -- the image ends within the bytes
-pub front_fits : {b : List ℕ} {n : ℕ} → Measures b (Length.Bytes n) → n ≤ length b
+pub front_fits : {b : List ℕ} {n : ℕ} → Measures b (Ok n) → n ≤ length b
 front_fits w = let e = w.keeps.1 in rw e (le_of_not_lt (λ h. w.keeps.0 4 (ImageFault.ends h, omega arith)))
 
-pub front_unmeasured : {b : List ℕ} {k : ℕ} → Measures b (Length.Refused k) → FrontRefused b k
+pub front_unmeasured : {b : List ℕ} {r : Refusal} → Measures b (Err r) → FrontRefused b (number_of r)
 front_unmeasured w = FrontRefused.header w.keeps.0
 
-module _ {b : List ℕ} {m : ℕ} {f : Reading} (w : Measures b (Length.Bytes m)) (d : ReadsImage (take m b) f) where
-  pub front_read : f.answer ≡ Answer.Accepted → FrontAccepted b
+module _ {b : List ℕ} {m : ℕ} {f : Reading} (w : Measures b (Ok m)) (d : ReadsImage (take m b) f) where
+  pub front_read : f.answer ≡ Ok tt → FrontAccepted b
   front_read e =
       let x = rw e at d.keeps in
       record { header = w.keeps.0; image = subst (λ (j : ℕ). Free (ImageFault (take j b))) w.keeps.1 x.0 }
 
-  pub front_unread : {k : ℕ} → f.answer ≡ Answer.Refused k → FrontRefused b k
-  front_unread {k} e =
+  pub front_unread : {r : Refusal} → f.answer ≡ Err r → FrontRefused b (number_of r)
+  front_unread {r} e =
       let x = rw e at d.keeps in
-      FrontRefused.image w.keeps.0 (subst (λ (j : ℕ). First (ImageFault (take j b)) k) w.keeps.1 x.0)
+      FrontRefused.image w.keeps.0 (subst (λ (j : ℕ). First (ImageFault (take j b)) (number_of r)) w.keeps.1 x.0)

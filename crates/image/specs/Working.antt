@@ -1,2 +1,3 @@
 -- Definitions that only private contracts and proofs cite.
 pub mod Taking
+pub mod Decoding

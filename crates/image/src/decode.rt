@@ -11,22 +11,23 @@ ghost use Rattle.format.specs.Working.Scanning.{SpellsHeader, WithinLimits};
 ghost use Rattle.image.specs.Working.Taking.{Takes};
 
 use format::fields;
-use format::fields::Header;
+use format::header::Header;
 use limits::Image;
 use netlist::{Cell, Design, Gate};
 
 pub(crate) fn decode(image: &[u8], h: Header) -> Design
-    requires { (SpellsHeader image.now h) × (WithinLimits image.now) }
+    requires spelled { SpellsHeader image.now h }
+    requires within { WithinLimits image.now }
     ensures { result ≡ decoded image.now }
 {
-    let count = h.count as usize;
-    let latches = h.latches as usize;
-    let outputs = h.outputs as usize;
+    let count = usize::from(h.count);
+    let latches = usize::from(h.latches);
+    let outputs = usize::from(h.outputs);
     let cells = cells_of(image, count);
-    let each = fields::nets_each(h.version);
+    let each = h.nets_each();
     let mut data = [0u16; Image::MOST_LATCHES];
     take_nets(image, count, 0, each, latches, &mut data);
-    let controlled = fields::three_net_latches(h);
+    let controlled = h.three_net_latches();
     let mut enable = [1u16; Image::MOST_LATCHES];
     take_nets(image, count, 1, Image::LATCH_NETS, controlled, &mut enable);
     let mut clear = [0u16; Image::MOST_LATCHES];
@@ -68,12 +69,10 @@ fn cells_of(image: &[u8], count: usize) -> [Cell; Image::MOST_CELLS]
     ensures { Filled (cell_in image.now) blank_cell most_cells count result }
 {
     let mut cells = [Cell { gate: Gate::Buf(0) }; Image::MOST_CELLS];
-    let mut i = 0;
-    while i < count {
+    for i in 0..count {
         cells[i] = Cell {
             gate: gate_at(image, i),
         };
-        i += 1;
     }
     cells
 }
@@ -86,6 +85,7 @@ fn gate_at(image: &[u8], i: usize) -> Gate
     gate_of(cell.kind, cell.first, cell.second)
 }
 
+// By ranges, as document 01 has the kinds: 0 and 1 read one net, 2 to 7 two.
 fn gate_of(kind: u16, a: u16, b: u16) -> Gate
     requires { kind < 2 ^ kind_bits }
     ensures { result ≡ gate_of kind a b }
@@ -117,13 +117,14 @@ fn two_nets(kind: u16, a: u16, b: u16) -> Gate
 
 // Puts n nets behind the cells, of which there are `count`, at the front of a list: net t, and then each that stands `step` further.
 fn take_nets(image: &[u8], count: usize, t: usize, step: usize, n: usize, nets: &mut [u16])
-    requires { ((count ≡ count_in image.now) × (count < 2 ^ count_bits))
-        × ((t ≤ most_tails) × ((step ≤ nets_each 2) × ((n ≤ most_outputs) × (n ≤ length nets.old)))) }
+    requires count { (count ≡ count_in image.now) × (count < 2 ^ count_bits) }
+    requires t { t ≤ most_tails }
+    requires step { step ≤ nets_each 2 }
+    requires few { n ≤ most_outputs }
+    requires room { n ≤ length nets.old }
     ensures { Takes (λ k. tail_in image.now (step * k + t)) n nets.old nets.new }
 {
-    let mut k = 0;
-    while k < n {
+    for k in 0..n {
         nets[k] = fields::tail(image, count, step * k + t);
-        k += 1;
     }
 }

@@ -3,40 +3,27 @@
 
 mod decode;
 
-ghost use Rattle.std.specs.Prelude.{◌≡◌};
+ghost use Rattle.std.specs.Prelude.{◌≡◌, Err};
 ghost use Rattle.image.specs.Meaning.Reading.{Measures, ReadsImage, empty_design};
+ghost use Rattle.image.specs.Working.Decoding.{Decodes};
 
 use format::{faults, fields, version};
+use memory::Refusal;
 use netlist::Design;
 
-#[derive(Clone, Copy)]
-pub enum Length {
-    Bytes(usize),
-    Refused(u8),
-}
-
 // How many bytes the image at the front of a slice takes. What follows it is not looked at, so that images can stand back to back.
-pub fn length_of(image: &[u8]) -> Length
+pub fn length_of(image: &[u8]) -> Result<usize, Refusal>
     ensures { Measures image.now result }
 {
     let h = fields::header_of(image);
-    let number = faults::header_fault(image.len(), h);
-    if number != 0 {
-        return Length::Refused(number);
-    }
-    Length::Bytes(fields::bytes(h))
+    faults::header_fault(image.len(), h).map(|_| h.bytes())
 }
 
-#[derive(Clone, Copy)]
-pub enum Answer {
-    Accepted,
-    Refused(u8),
-}
-
-// An answer, and beside it the design, or the empty one.
+// Whether an image is accepted, and beside that its design, or the empty one. Not a Result of the design: of a refusal `ReadsImage` promises
+// the empty design beside it, to which the edits empty_design_has_an_input and empty_design_never_enabled hold.
 #[derive(Clone, Copy)]
 pub struct Reading {
-    pub answer: Answer,
+    pub answer: Result<(), Refusal>,
     pub design: Design,
 }
 
@@ -44,30 +31,37 @@ pub struct Reading {
 pub fn read(image: &[u8]) -> Reading
     ensures { ReadsImage image.now result }
 {
-    let h = fields::header_of(image);
-    let number = faults::header_fault(image.len(), h);
-    if number != 0 {
-        return refusal(number);
-    }
-    let design = decode::decode(image, h);
-    let found = order::fault_of(design);
-    let number = faults::field_fault(image, h, found, version::version_of(design));
-    if number != 0 {
-        return refusal(number);
-    }
-    Reading {
-        answer: Answer::Accepted,
-        design,
+    match decoded(image) {
+        Ok(design) => Reading {
+            answer: Ok(()),
+            design,
+        },
+        Err(reason) => refusal(reason),
     }
 }
 
-// A refusal by whatever number a reader found, with the empty design beside it; no answer by itself.
-pub fn refusal(number: u8) -> Reading
-    ensures { (result.answer ≡ Answer.Refused number) × (result.design ≡ empty_design) }
+// The same by itself.
+fn decoded(image: &[u8]) -> Result<Design, Refusal>
+    ensures { Decodes image.now result }
 {
-    let design = decode::empty();
+    let h = fields::header_of(image);
+    faults::header_fault(image.len(), h)?;
+    let design = decode::decode(image, h);
+    faults::field_fault(
+        image,
+        h,
+        order::fault_of(design),
+        version::version_of(design),
+    )?;
+    Ok(design)
+}
+
+// A refusal for whatever reason a reader found, with the empty design beside it; no answer by itself.
+pub fn refusal(reason: Refusal) -> Reading
+    ensures { (result.answer ≡ Err reason) × (result.design ≡ empty_design) }
+{
     Reading {
-        answer: Answer::Refused(number),
-        design,
+        answer: Err(reason),
+        design: decode::empty(),
     }
 }

@@ -1,4 +1,5 @@
 -- An image has one text; and of input that is longer than any image the part that is read has the text of the whole.
+use Rattle.std.proofs.Common.{Option, ℕ}
 use Prim.Native.Nat.{ℕ, ◌/◌, ◌%◌, ◌<◌, ◌≤◌}
 use mathlib.Core.Path.{◌≡◌, sym, ◌∙◌, ap, subst}
 use mathlib.Core.List.{List}
@@ -11,7 +12,6 @@ use Rattle.memory.proofs.Orders.{first_unique}
 use Rattle.reader.specs.Meaning.Fields.{bit_at}
 use Rattle.image.proofs.Long.{SameFront, never_free, lowest_there}
 use Rattle.pieces.specs.Meaning.Pieces.{last_field}
-use Rattle.streams.specs.declared.Input.{Input}
 use Rattle.streams.specs.Meaning.Output.{Sends}
 use Rattle.streams.proofs.Sending.{one_answer}
 use Rattle.inspector.specs.Meaning.Shown.{most_read, unread_message, Shows, Inspects}
@@ -22,7 +22,7 @@ one_text b t u (Shows.accepted f e) (Shows.refused n l h) = absurd (f n l.applie
 one_text b t u (Shows.refused m k e) (Shows.accepted g h) = absurd (g m k.applies)
 one_text b t u (Shows.refused m k e) (Shows.refused n l h) = e ∙ ap (last_field "REFUSED ") (first_unique k l) ∙ sym h
 
-pub one_sending : (i : Input) (room a b : List ℕ) (k l r s : ℕ) → Sends unread_message Inspects i room a k r → Sends unread_message Inspects i room b l s → (k ≡ l) × (take r a ≡ take s b)
+pub one_sending : (i : Option ℕ) (room a b : List ℕ) (k l r s : ℕ) → Sends unread_message Inspects i room a k r → Sends unread_message Inspects i room b l s → (k ≡ l) × (take r a ≡ take s b)
 one_sending i room a b k l r s p q = one_answer (λ t c d. (c.stream ∙ sym d.stream, one_text t (take r a) (take s b) c.shows d.shows)) p.says q.says
 
 same_bit : (b c : List ℕ) (i : ℕ) → get_or b (i / 8) 0 ≡ get_or c (i / 8) 0 → bit_at b i ≡ bit_at c i

@@ -18,19 +18,20 @@ pub struct Found {
     pub kept: usize,
 }
 
-// Goes along a row of nets; a cell that drives one of them is kept, and the nets that it reads are added to the row.
+// Goes along a row of nets; a cell that drives one of them is kept, and the nets that it reads are added to the row. The row grows on the
+// way, so no range or iterator says how long it is: the `while` stays.
 pub fn find_kept(d: Design) -> Found
     requires { Sound d }
     ensures { TellsKept d result.dead result.kept }
 {
-    let base = 2 + d.inputs as usize + d.latches as usize;
-    let ends = 3 * d.latches as usize + d.outputs as usize;
+    let base = d.cell_base();
+    let ends = ends_of(d);
     let mut list = [0u16; Image::MOST_CELLS];
     let mut dead = [true; Image::MOST_CELLS];
     let mut kept = 0;
     let mut q = 0;
     while q < ends + 2 * kept {
-        let net = row_net(d, list, q) as usize;
+        let net = usize::from(row_net(d, list, q));
         if base <= net {
             let i = net - base;
             if dead[i] {
@@ -49,26 +50,33 @@ fn row_net(d: Design, list: [u16; Image::MOST_CELLS], q: usize) -> u16
     requires { InRow d list q }
     ensures { result ≡ row_net d list q }
 {
-    let ends = 3 * d.latches as usize + d.outputs as usize;
+    let ends = ends_of(d);
     if q < ends {
         return end_net(d, q);
     }
     let p = q - ends;
-    let i = list[p / 2] as usize;
-    let c = d.cells[i];
-    let g = c.gate;
+    let i = usize::from(list[p / 2]);
+    let gate = d.cells[i].gate;
     if p % 2 == 0 {
-        return netlist::first_of(g);
+        return netlist::first_of(gate);
     }
-    netlist::second_of(g)
+    netlist::second_of(gate)
+}
+
+// How many nets flip-flops read and outputs show.
+fn ends_of(d: Design) -> usize
+    ensures { result ≡ ends_of d }
+{
+    3 * usize::from(d.latches) + usize::from(d.outputs)
 }
 
 // The data, enable and clear nets of the flip-flops, then the nets that outputs show.
 fn end_net(d: Design, q: usize) -> u16
-    requires { Sound d × (q < ends_of d) }
+    requires sound { Sound d }
+    requires within { q < ends_of d }
     ensures { result ≡ end_net d q }
 {
-    let n = d.latches as usize;
+    let n = usize::from(d.latches);
     if q < n {
         return d.data[q];
     }

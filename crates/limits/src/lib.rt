@@ -1,7 +1,9 @@
 // How a netlist image is laid out: its limits, and how wide its fields are.
 #![tactic(auto)]
 
+ghost use Rattle.std.specs.Prelude.{◌↔◌, IsTrue};
 ghost use Rattle.limits.specs.Meaning.Bounds.{AreLimits};
+ghost use Rattle.limits.specs.Working.Over.{Over};
 
 // The image format: the limits of its sizes, the widths of its fields and the bytes of the largest image, named once.
 #[derive(Clone, Copy)]
@@ -63,4 +65,25 @@ pub struct Limits {
     pub outputs: usize,
     pub cells: usize,
     pub bytes: usize,
+}
+
+// The sizes of a design, wherever they stand.
+#[derive(Clone, Copy)]
+pub struct DesignSizes {
+    pub inputs: usize,
+    pub latches: usize,
+    pub outputs: usize,
+    pub cells: usize,
+}
+
+impl DesignSizes {
+    // Whether one of them is over its limit.
+    pub fn over_limit(self) -> bool
+        ensures { IsTrue result ↔ Over self }
+    {
+        self.inputs > Image::MOST_INPUTS
+            || self.latches > Image::MOST_LATCHES
+            || self.outputs > Image::MOST_OUTPUTS
+            || self.cells > Image::MOST_CELLS
+    }
 }

@@ -12,7 +12,7 @@ use lib.Dec.{ltb}
 use lib.ListN.{length, get_or, drop, drop_of_length-le}
 use lib.Seq.{drop-cons}
 use Rattle.lines.specs.Meaning.Spelling.{words, cut, grow, digit, digits, numeral}
-use Rattle.lines.specs.Working.Scanning.{front, past, graft, join, NumberAt, BadWords, Bad, Spaced, Ended, FieldAt}
+use Rattle.lines.specs.Working.Scanning.{front, past, graft, join, NumberAt, BadWords, Bad, Spaced, Ended, Field}
 use Rattle.lines.proofs.Scanning.{digit_low, split, front_digit, front_other, past_digit, past_other, words_byte, words_feed, words_space, behind_byte, behind_feed, words_front, behind_front}
 
 -- digits at the front are digits, and what stands behind them begins with none
@@ -123,9 +123,6 @@ module _ (s : List ℕ) where
       joined [] = refl
       joined (v ∷ vs) = ap (λ (w : List ℕ). w ∷ v ∷ vs) (append-nil (front s))
 
-pub no_field : {s r : List ℕ} {v k : ℕ} → k ≡ 0 → Bad s → FieldAt s v k r
-no_field e b = record { bad = λ n m. b; spaced = λ q. absurd (omega arith); ended = λ q. absurd (omega arith) }
-
 -- the same by places
 module _ {t : List ℕ} {at v e : ℕ} (n : NumberAt t at v e) where
   abbrev s : List ℕ
@@ -183,9 +180,9 @@ module _ {t : List ℕ} {at v e : ℕ} (n : NumberAt t at v e) where
     pub stops_other : (get_or t e 0 ≡ 10 → ⊥) → (get_or t e 0 ≡ 32 → ⊥) → Bad s
     stops_other p q = bad_stop s (get_or t e 0) (drop (e + 1) t) follows p q
 
-    pub a_field : (k : ℕ) → k ≡ get_or t e 0 → (k ≡ 10) ⊎ (k ≡ 32) → numeral (front s) ≡ true → FieldAt s v k (drop (e + 1) t)
+    pub a_field : (k : ℕ) → k ≡ get_or t e 0 → (k ≡ 32) ⊎ (k ≡ 10) → numeral (front s) ≡ true → Field s v k (drop (e + 1) t)
     a_field k h o p = record {
-      bad = λ x y. absurd (⊎_elim y x o);
+      stops = o;
       spaced = λ x. (front s, spaces s (drop (e + 1) t) (follows ∙ rw (← h, x)) p, n.capped);
       ended = λ x. (front s, ends s (drop (e + 1) t) (follows ∙ rw (← h, x)) p, n.capped);
     }

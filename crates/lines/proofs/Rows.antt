@@ -1,16 +1,17 @@
 -- Laws on lines that are scanned word by word.
-use Prim.Native.Nat.{ℕ, ◌+◌, ◌<◌, ◌≤◌, min}
+use Prim.Native.Nat.{ℕ, zero, suc, ◌+◌, ◌<◌, ◌≤◌, min}
 use mathlib.Core.Path.{◌≡◌, refl, sym, ◌∙◌, ap, subst}
 use mathlib.Core.Logic.{◌⊎◌, inl, inr, ⊎_elim}
 use mathlib.Core.Bool.{true, false}
 use mathlib.Core.List.{List, [], ◌∷◌, ◌++◌, append_assoc}
 use native.Mathlib.Omega.{arith}
-use native.Mathlib.Decide.{ℕ_discrete}
-use lib.ListN.{length, get_or, length-append, get_or-append}
-use lib.Seq.{get_or-append-add, get_or-append_seam}
+use native.Mathlib.Decide.{ℕ_discrete, dec_lt}
+use lib.ListN.{length, get_or, set, drop, length-append, length-set, get_or-append, get_or-eq_default}
+use lib.Seq.{get_or-set_same, get_or-set_other, get_or-append-add, get_or-append_seam}
+use Rattle.std.specs.Prelude.{Some}
 use Rattle.lines.specs.Meaning.Spelling.{words, behind, numeral, onward, value}
-use Rattle.lines.specs.Working.Scanning.{join, cap, BadWords, Bad, Spaced, Ended, FieldAt}
-use Rattle.lines.specs.Working.Rows.{Fine, RowFault, RowAt}
+use Rattle.lines.specs.Working.Scanning.{join, cap, BadWords, Bad, Spaced, Ended, Capped, Field}
+use Rattle.lines.specs.Working.Rows.{Fine, RowFault, Numbered, RowAt}
 
 -- the words us stand at the front of s, with spaces behind them, and then r
 pub record Led (s : List ℕ) (us : List (List ℕ)) (r : List ℕ) : Type 0 where
@@ -41,8 +42,18 @@ module _ {s r : List ℕ} {us : List (List ℕ)} (l : Led s us r) where
       go (v ∷ vs) (inl e) = absurd (let z : ◌≡◌ {A = ℕ} 0 1 = cc in omega arith)
       go (v ∷ vs) (inr k) = inr (length us + k.0, omega arith, omega (arith, length-append us (v ∷ vs), k.1), rw (get_or-append-add us (v ∷ vs) k.0 []) k.2)
 
-  pub led_bad : Bad r → Bad s
-  led_bad b = ⊎_elim (λ e. inl e) (λ k. inr (k.0, k.2, k.3)) (led_broken b)
+  -- a line at fault behind the words us
+  pub led_fault : {m : ℕ} → RowFault m (words r) → RowFault m (words s)
+  led_fault {m} f = rw l.cuts (go (words r) f)
+    where
+      go : (ws : List (List ℕ)) → RowFault m ws → RowFault m (join us ws)
+      go [] (inl b) = inl (inl refl)
+      go [] (inr (inl h)) = absurd (omega arith)
+      go [] (inr (inr i)) = absurd (omega (arith, i.1))
+      go (v ∷ vs) (inl (inl e)) = absurd (let z : ◌≡◌ {A = ℕ} 0 1 = cc in omega arith)
+      go (v ∷ vs) (inl (inr k)) = inl (inr (length us + k.0, omega (arith, length-append us (v ∷ vs), k.1), rw (get_or-append-add us (v ∷ vs) k.0 []) k.2))
+      go (v ∷ vs) (inr (inl h)) = inr (inl (omega (arith, length-append us (v ∷ vs), h)))
+      go (v ∷ vs) (inr (inr i)) = inr (inr (length us + i.0, omega (arith, length-append us (v ∷ vs), i.1), rw (get_or-append-add us (v ∷ vs) i.0 []) i.2))
 
   pub led_ends : {w q : List ℕ} → Ended r w q → (words s ≡ us ++ (w ∷ [])) × (behind s ≡ q)
   led_ends p = (l.cuts ∙ rw p.cuts, l.rest ∙ p.rest)
@@ -75,72 +86,59 @@ fine_more m us w f e h = all_more (λ (v : List ℕ). (numeral v ≡ true) × (v
 exact : (v x m : ℕ) → min v cap ≡ min x cap → v ≤ m → m < cap → v ≡ x
 exact v x m e h l = omega arith
 
-exceeds : (v x m : ℕ) → min v cap ≡ min x cap → m < v → m < cap → m < x
-exceeds v x m e h l = omega arith
+-- n numbers up to m stand at the front of s, and r behind them; l holds them
+pub record Rowed (m : ℕ) (s r : List ℕ) (n : ℕ) (l : List ℕ) : Type 0 where
+  pub passed : List (List ℕ)
+  pub led : Led s passed r
+  pub count : length passed ≡ n
+  pub room : length l ≡ 3
+  pub fine : Fine m passed
+  pub numbered : Numbered l passed
 
--- numbers up to m stand at the front of s
-pub record Rowed (m : ℕ) (s : List ℕ) (us : List (List ℕ)) (r : List ℕ) : Type 0 where
-  pub led : Led s us r
-  pub fine : Fine m us
-
-pub rowed_none : (m : ℕ) (s : List ℕ) → Rowed m s [] s
-rowed_none m s = record { led = led_none s; fine = fine_none m }
-
-module _ {m : ℕ} {s r q : List ℕ} {us : List (List ℕ)} {v k : ℕ} (l : Rowed m s us r) (f : FieldAt r v k q) (small : m < cap) where
-  pub rowed_more : v ≤ m → k ≡ 32 → (w : List ℕ) × Rowed m s (us ++ (w ∷ [])) q × (v ≡ value w)
-  rowed_more h e =
-      let p = f.spaced e in
-      let x = exact v (value p.0) m p.2 h small in
-      (p.0, record { led = led_more l.led p.1; fine = fine_more m us p.0 l.fine p.1.number (omega arith) }, x)
-
-  pub rowed_ends : v ≤ m → k ≡ 10 → (w : List ℕ) × (words s ≡ us ++ (w ∷ [])) × Fine m (us ++ (w ∷ [])) × (v ≡ value w) × (behind s ≡ q)
-  rowed_ends h e =
-      let p = f.ended e in
-      let x = exact v (value p.0) m p.2 h small in
-      let t = led_ends l.led p.1 in
-      (p.0, t.0, fine_more m us p.0 l.fine p.1.number (omega arith), x, t.1)
-
-  pub rowed_bad : (k ≡ 10 → ⊥) → (k ≡ 32 → ⊥) → RowFault m (words s)
-  rowed_bad a b = inl (led_bad l.led (f.bad b a))
-
-  -- the line goes on behind three numbers
-  pub rowed_long : length us ≡ 2 → v ≤ m → (k ≡ 10 → ⊥) → RowFault m (words s)
-  rowed_long h o n = go (ℕ_discrete k 32)
-    where
-      go : Dec (k ≡ 32) → RowFault m (words s)
-      go (yes e) = let p = rowed_more o e in ⊎_elim (λ b. inl (inl b)) (λ x. inr (inl x)) (led_long p.1.led 3 (omega (arith, length-append us (p.0 ∷ []))))
-      go (no e) = rowed_bad n e
-
-  above_at : (ws xs : List (List ℕ)) (w : List ℕ) → ws ≡ us ++ (w ∷ xs) → m < value w → RowFault m ws
-  above_at ws xs w e h = inr (inr (length us, omega (arith, ap length e, length-append us (w ∷ xs)), rw (e, get_or-append_seam us w xs []) h))
-
-  pub rowed_over : m < v → RowFault m (words s)
-  rowed_over h = go (ℕ_discrete k 10) (ℕ_discrete k 32)
-    where
-      spaced : (w : List ℕ) (xs : List (List ℕ)) → words s ≡ join us (join (w ∷ []) xs) → m < value w → RowFault m (words s)
-      spaced w [] e o = inl (inl e)
-      spaced w (x ∷ xs) e o = above_at (words s) (x ∷ xs) w e o
-
-      go : Dec (k ≡ 10) → Dec (k ≡ 32) → RowFault m (words s)
-      go (yes e) y =
-          let p = f.ended e in
-          above_at (words s) [] p.0 (led_ends l.led p.1).0 (exceeds v (value p.0) m p.2 h small)
-      go (no n) (yes e) =
-          let p = f.spaced e in
-          spaced p.0 (words q) (l.led.cuts ∙ ap (join us) p.1.cuts) (exceeds v (value p.0) m p.2 h small)
-      go (no n) (no o) = rowed_bad n o
-
--- the replies
-pub no_row : {m : ℕ} {s r : List ℕ} {n a b c : ℕ} → n ≡ 0 → RowFault m (words s) → RowAt m s n a b c r
-no_row e f = record { bad = λ q. f; good = λ q. absurd (q e); rest = λ q. absurd (q e) }
-
-pub row_one : {m : ℕ} {s r : List ℕ} {a : ℕ} (u : List ℕ) → words s ≡ u ∷ [] → Fine m (u ∷ []) → a ≡ value u → behind s ≡ r → RowAt m s 1 a 0 0 r
+pub rowed_none : (m : ℕ) (s : List ℕ) → Rowed m s s 0 (0 ∷ 0 ∷ 0 ∷ [])
 unfolding onward
-row_one u e f x q = record { bad = λ z. absurd (omega arith); good = λ z. record { size = rw e; few = omega arith; fine = rw e f; one = rw e x; two = rw e; three = rw e }; rest = λ z. q }
+rowed_none m s = record { passed = []; led = led_none s; count = refl; room = refl; fine = fine_none m; numbered = zeros }
+  where
+    zeros : Numbered (0 ∷ 0 ∷ 0 ∷ []) []
+    zeros zero = refl
+    zeros (suc zero) = refl
+    zeros (suc (suc zero)) = refl
+    zeros (suc (suc (suc i))) = refl
 
-pub row_two : {m : ℕ} {s r : List ℕ} {a b : ℕ} (u v : List ℕ) → words s ≡ u ∷ v ∷ [] → Fine m (u ∷ v ∷ []) → a ≡ value u → b ≡ value v → behind s ≡ r → RowAt m s 2 a b 0 r
-unfolding onward
-row_two u v e f x y q = record { bad = λ z. absurd (omega arith); good = λ z. record { size = rw e; few = omega arith; fine = rw e f; one = rw e x; two = rw e y; three = rw e }; rest = λ z. q }
+module _ {m : ℕ} {s r q : List ℕ} {n v k : ℕ} {l : List ℕ} (p : Rowed m s r n l) (f : Field r v k q) (small : m < cap) (few : n < 3) (low : v ≤ m) where
+  more_numbered : (w : List ℕ) → v ≡ value w → Numbered (set l n v) (p.passed ++ (w ∷ []))
+  more_numbered w e i = go (ℕ_discrete i n) (dec_lt i n)
+    where
+      go : Dec (i ≡ n) → Dec (i < n) → get_or (set l n v) i 0 ≡ value (get_or (p.passed ++ (w ∷ [])) i [])
+      go (yes h) b =
+          let room : i < length l = omega (arith, p.room) in
+          rw (← h) (get_or-set_same l i v 0 room ∙ e ∙ ap value (sym (rw (h, ← p.count) (get_or-append_seam p.passed w [] []))))
+      go (no h) (yes b) =
+          let k : i < length p.passed = omega (arith, p.count) in
+          rw (get_or-set_other l n i v 0 h, get_or-append p.passed (w ∷ []) [] i k) (p.numbered i)
+      go (no h) (no b) =
+          let k : length p.passed ≤ i = omega (arith, p.count) in
+          let j : length (p.passed ++ (w ∷ [])) ≤ i = omega (arith, length-append p.passed (w ∷ []), p.count) in
+          rw (get_or-set_other l n i v 0 h, get_or-eq_default (p.passed ++ (w ∷ [])) [] {n = i} j) (p.numbered i ∙ ap value (get_or-eq_default p.passed [] {n = i} k))
 
-pub row_three : {m : ℕ} {s r : List ℕ} {a b c : ℕ} (u v w : List ℕ) → words s ≡ u ∷ v ∷ w ∷ [] → Fine m (u ∷ v ∷ w ∷ []) → a ≡ value u → b ≡ value v → c ≡ value w → behind s ≡ r → RowAt m s 3 a b c r
-row_three u v w e f x y z q = record { bad = λ k. absurd (omega arith); good = λ k. record { size = rw e; few = omega arith; fine = rw e f; one = rw e x; two = rw e y; three = rw e z }; rest = λ k. q }
+  grown : (w : List ℕ) → numeral w ≡ true → Capped v w → (Fine m (p.passed ++ (w ∷ []))) × (length (p.passed ++ (w ∷ [])) ≡ n + 1) × Numbered (set l n v) (p.passed ++ (w ∷ []))
+  grown w e c =
+      let x = exact v (value w) m c low small in
+      (fine_more m p.passed w p.fine e (omega arith), omega (arith, length-append p.passed (w ∷ []), p.count), more_numbered w x)
+
+  pub rowed_more : k ≡ 32 → Rowed m s q (n + 1) (set l n v)
+  rowed_more e =
+      let w = f.spaced e in
+      let g = grown w.0 w.1.number w.2 in
+      record { passed = p.passed ++ (w.0 ∷ []); led = led_more p.led w.1; count = g.1; room = simp length-set p.room; fine = g.0; numbered = g.2 }
+
+  pub rowed_ends : (t : List ℕ) (at end : ℕ) → s ≡ drop at t → q ≡ drop end t → end ≤ length t → k ≡ 10 → RowAt m t at (Some (record { count = n + 1; numbers = set l n v; end = end }))
+  rowed_ends t at end es eq h e =
+      let w = f.ended e in
+      let g = grown w.0 w.1.number w.2 in
+      let x = led_ends p.led w.1 in
+      rw (← es) (record { size = rw x.0 (sym g.1); few = omega arith; fine = rw x.0 g.0; numbered = rw x.0 g.2 }, x.1 ∙ eq, h)
+
+-- the line goes on behind three numbers
+pub rowed_long : {m : ℕ} {s r l : List ℕ} → Rowed m s r 3 l → RowFault m (words s)
+rowed_long p = ⊎_elim (λ b. inl (inl b)) (λ x. inr (inl x)) (led_long p.led 3 (omega (arith, p.count)))

@@ -10,6 +10,7 @@ use borrow.Author.Tests.{ltb-true, lt-ltb, le-ltb, ne_eqb}
 use lib.Dec.{ltb}
 use lib.ListN.{length, get_or, drop, drop_of_length-le}
 use lib.Seq.{drop-cons}
+use Rattle.std.specs.Char.{IsAsciiDigit, IsNotAsciiDigit}
 use Rattle.lines.specs.Meaning.Spelling.{words, behind, cut, grow, digit, onward}
 use Rattle.lines.specs.Working.Scanning.{front, past, graft, cap, Passed, NumberAt}
 
@@ -36,6 +37,13 @@ digit_low x e = ltb-true 47 x (both (ltb 47 x) (ltb x 58) e).0
 
 pub digit_high : (x : ℕ) → digit x ≡ true → x < 58
 digit_high x e = ltb-true x 58 (both (ltb 47 x) (ltb x 58) e).1
+
+-- what the library says of a digit
+pub digit_is : (x : ℕ) → IsAsciiDigit x → digit x ≡ true
+digit_is x h = digit_of x (omega arith) (omega arith)
+
+pub digit_not : (x : ℕ) → IsNotAsciiDigit x → digit x ≡ false
+digit_not x h = ⊎_elim (λ l. not_low x (omega arith)) (λ l. not_high x (omega arith)) h
 
 -- true or false, with the equation
 pub split : (b : Bool) → (b ≡ true) ⊎ (b ≡ false)
@@ -122,10 +130,7 @@ pub onward_nil : (n : ℕ) → onward n [] ≡ n
 unfolding onward
 onward_nil n = refl
 
--- a scan of digits begins, passes a digit, and ends
-pub passed_none : (t : List ℕ) (at : ℕ) → at ≤ length t → Passed t at 0 at
-passed_none t at h = record { within = h; few = omega arith; size = refl; rest = refl; capped = refl }
-
+-- a scan of digits passes a digit, and ends
 module _ {t : List ℕ} {at n i : ℕ} (p : Passed t at n i) (h : i < length t) where
   at_i : drop i t ≡ get_or t i 0 ∷ drop (i + 1) t
   at_i = rw add-one (drop-cons t i 0 h)

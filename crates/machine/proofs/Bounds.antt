@@ -1,5 +1,6 @@
 -- How long a trace, the list of a pair and the list of a verdict Same can be, and how many rounds it takes: of any two machines that stay
 -- within the sizes, and of tables.
+use Rattle.std.proofs.Common.{Option}
 use mathlib.Core.Path.{◌≡◌, refl, sym, ap}
 use mathlib.Core.List.{List, [], ◌++◌}
 use Prim.Native.Nat.{ℕ, suc, ◌≤◌, ◌+◌, ◌-◌, ◌*◌}
@@ -7,7 +8,6 @@ use native.Mathlib.Omega.{arith}
 use native.Mathlib.Nat.{mul-le-mul}
 use lib.ListN.{length}
 use Rattle.machine.specs.declared.Pair.{Pair}
-use Rattle.machine.specs.declared.Prior.{Prior}
 use Rattle.machine.specs.declared.Sizes.{Sizes}
 use Rattle.machine.specs.Meaning.Lists.{Each}
 use Rattle.machine.specs.Meaning.Machine.{Machine, Alike, ListAfter}
@@ -32,7 +32,7 @@ module _ (m0 m1 : Machine) (Ok : ℕ → Type 0) (z : Sizes) (stays : StaysIn m0
   }
 
   -- a pair's own list has fewer steps than there are pairs, whatever comes before it
-  pub list_short : {s : Prior} (p : Pair) (l : List ℕ) → In z p → ListAfter m0 m1 Ok s p l → length l ≤ pairs z - 1
+  pub list_short : {s : Option ℕ} (p : Pair) (l : List ℕ) → In z p → ListAfter m0 m1 Ok s p l → length l ≤ pairs z - 1
   list_short p l i f = leads_short m0 m1 Ok z stays (Alike m0 m1 Ok) p l i f.shortest
 
   -- a verdict's list takes one number of rounds, however it is shown to be one

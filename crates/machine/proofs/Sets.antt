@@ -1,9 +1,9 @@
 -- Two sets of vectors that agree: alike, alignable, traces, lists, rounds and the verdict over one are those over the other. So with all V
 -- vectors allowed they are those of before request §6, over the vectors below V. Each law goes one way; `agree_back` turns it round.
+use Rattle.std.proofs.Common.{Option}
 use Prim.Native.Nat.{ℕ, zero, suc, ◌<◌}
 use mathlib.Core.List.{List, [], ◌∷◌}
 use Rattle.machine.specs.declared.Pair.{Pair}
-use Rattle.machine.specs.declared.Prior.{Prior}
 use Rattle.machine.specs.declared.Sizes.{Sizes}
 use Rattle.machine.specs.Meaning.Lists.{Each, Leads}
 use Rattle.machine.specs.Meaning.Machine.{Machine, step, Alike, Alignable, Shows, IsTrace, ListAfter}
@@ -47,7 +47,7 @@ module _ (m0 m1 : Machine) where
   pub trace_over : {X Y : ℕ → Type 0} → Agree X Y → (p : Pair) (l : List ℕ) → IsTrace m0 m1 X p l → IsTrace m0 m1 Y p l
   trace_over e p l f = picked_there (shows_over e p) (shows_over (agree_back e) p) f
 
-  pub list_over : {X Y : ℕ → Type 0} → Agree X Y → (s : Prior) (p : Pair) (l : List ℕ) → ListAfter m0 m1 X s p l → ListAfter m0 m1 Y s p l
+  pub list_over : {X Y : ℕ → Type 0} → Agree X Y → (s : Option ℕ) (p : Pair) (l : List ℕ) → ListAfter m0 m1 X s p l → ListAfter m0 m1 Y s p l
   list_over e s p l f = picked_there (leads_over e p) (leads_over (agree_back e) p) f
 
   a_over : {X Y : ℕ → Type 0} → Agree X Y → (i : ℕ) (p : Pair) → A m0 m1 X i p → A m0 m1 Y i p

@@ -1,5 +1,6 @@
 -- The verdict is one: the rounds have one result, the lowest pair that is not alignable is one pair, and so what is written is one list.
 -- The list of Same drives every pair of power-up states to an alike pair, and no list so drives the pair of Apart.
+use Rattle.std.proofs.Common.{None}
 use mathlib.Core.Path.{◌≡◌, sym, ap, ◌∙◌, subst}
 use mathlib.Core.Logic.{⊎_elim}
 use mathlib.Core.List.{List, [], ◌++◌}
@@ -8,7 +9,6 @@ use native.Mathlib.Omega.{arith}
 use lib.ListN.{length, length-append}
 use Rattle.numbers.proofs.Order.{tri}
 use Rattle.machine.specs.declared.Pair.{Pair}
-use Rattle.machine.specs.declared.Prior.{Prior}
 use Rattle.machine.specs.declared.Sizes.{Sizes}
 use Rattle.machine.specs.Meaning.Lists.{Each, run, Leads}
 use Rattle.machine.specs.Meaning.Pick.{after}
@@ -30,8 +30,8 @@ module _ (m0 m1 : Machine) (Ok : ℕ → Type 0) (z : Sizes) where
   apart_unique p q a b = one_pair p q a.inside b.inside (λ h. a.apart (b.lower p a.inside h)) (λ h. b.apart (a.lower q b.inside h))
 
   -- "the last vector of a round counts as the step before the next round": a round has one, and the end of the list so far is it
-  pub last_of_round : (l m : List ℕ) (p : Pair) → LowestOpen m0 m1 Ok z l p → ListAfter m0 m1 Ok (after Prior.Start l) p m → after Prior.Start (l ++ m) ≡ after Prior.Start m
-  last_of_round l m p g f = after_step Prior.Start Prior.Start l m (open_list_has_step m0 m1 Ok p m g.open' f)
+  pub last_of_round : (l m : List ℕ) (p : Pair) → LowestOpen m0 m1 Ok z l p → ListAfter m0 m1 Ok (after None l) p m → after None (l ++ m) ≡ after None m
+  last_of_round l m p g f = after_step None None l m (open_list_has_step m0 m1 Ok p m g.open' f)
 
   -- the rounds append only allowed vectors, and take none away
   pub rounds_allowed : (r l : List ℕ) → Rounds m0 m1 Ok z r l → Each Ok l → Each Ok r

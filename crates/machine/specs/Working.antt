@@ -5,4 +5,3 @@ pub mod Pairs
 pub mod Sets
 pub mod Answers
 pub mod Watched
-pub mod Beside

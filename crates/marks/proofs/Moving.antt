@@ -3,12 +3,12 @@ use mathlib.Core.Path.{◌≡◌, refl, sym, ap, ◌∙◌, subst}
 use mathlib.Core.Logic.{◌⊎◌, inl, inr, ⊎_elim}
 use mathlib.Core.Bool.{Bool, true, false, false≢true}
 use mathlib.Core.List.{List, [], ◌∷◌, ◌++◌}
-use Prim.Native.Nat.{ℕ, ◌<◌, ◌≤◌, ◌+◌, ◌*◌}
+use Prim.Native.Nat.{ℕ, zero, suc, ◌<◌, ◌≤◌, ◌+◌, ◌*◌}
 use native.Mathlib.Omega.{arith}
 use native.Mathlib.Numerals.{add-one}
 use lib.Arith.{digits_lt}
 use lib.ListN.{length, get_or, set, length-set, replicate, get_or-replicate, length-replicate, take}
-use lib.Seq.{get_or-set_same, get_or-set_other, slice, slice_empty, take-suc, drop-append-le, length-take-le}
+use lib.Seq.{get_or-set_same, get_or-set_other, take-suc}
 use Rattle.numbers.proofs.Order.{tri}
 use Rattle.memory.proofs.Filling.{all_same}
 use Rattle.machine.specs.Meaning.Lists.{run, Each}
@@ -64,12 +64,6 @@ module _ (f : ℕ → ℕ) (marks : List Bool) where
         forth j m (inr (inl b)) u = rw (b, ← eq) (get_or-set_same out q true false inl')
         forth j m (inr (inr l)) u = absurd (omega arith)
 
-    pub partial_end : (n : ℕ) → s ≡ n → Successors f n marks out
-    partial_end n b = rw (← b) (record { back = λ q h t. w.back q t; forth = w.forth })
-
-successors_none : (f : ℕ → ℕ) (n : ℕ) (marks : List Bool) → ((s : ℕ) → f s ≡ s) → Successors f n marks marks
-successors_none f n marks e = record { back = λ q h t. record { state = q; under = h; marked = t; leads = e q }; forth = λ s l t. rw (e s) t }
-
 successors_then : (f g k : ℕ → ℕ) (n : ℕ) (a b c : List Bool) → ((s : ℕ) → g (f s) ≡ k s) → ((s : ℕ) → s < n → f s < n) → Successors f n a b → Successors g n b c → Successors k n a c
 successors_then f g k n a b c e cl x y = record {
   back = λ q h t.
@@ -79,36 +73,22 @@ successors_then f g k n a b c e cl x y = record {
   forth = λ s l t. subst (λ (q : ℕ). get_or c q false ≡ true) (e s) (y.forth (f s) (cl s l) (x.forth s l t));
 }
 
-slice_more : (list : List ℕ) (from i : ℕ) → from ≤ i → i < length list → slice from (i + 1) list ≡ slice from i list ++ (get_or list i 0 ∷ [])
-slice_more list from i h l =
-    rw (add-one, take-suc list i 0 l) (drop-append-le from (take i list) (get_or list i 0 ∷ []) (omega (arith, length-take-le i list (omega arith))))
-
--- the vectors from place from to place i have been fed
-pub record Spreading (n nv : ℕ) (next list : List ℕ) (from : ℕ) (marks : List Bool) (i : ℕ) (current : List Bool) : Type 0 where
-  pub start : from ≤ i
-  pub ok : Each (λ v. v < nv) (slice from i list)
-  pub successors : Successors (λ s. run (next_of nv next) s (slice from i list)) n marks current
+each_taken : (P : ℕ → Type 0) (l : List ℕ) (n : ℕ) → ((i : ℕ) → i < length l → P (get_or l i 0)) → Each P (take n l)
+each_taken P l zero h = tt
+each_taken P [] (suc n) h = tt
+each_taken P (v ∷ l) (suc n) h = (h 0 (omega arith), each_taken P l n (λ i k. h (suc i) (omega arith)))
 
 module _ {n nv : ℕ} {next : List ℕ} (w : Leading n nv next) where
   -- the states stay below n
   pub run_under : (s : ℕ) (l : List ℕ) → s < n → Each (λ v. v < nv) l → run (next_of nv next) s l < n
   run_under s l h o = run_in (next_of nv next) (λ v. v < nv) (λ x. x < n) (λ x v i a. w.stays (x * nv + v) (digits_lt i a)) s l h o
 
-  module _ (list : List ℕ) (from : ℕ) (marks : List Bool) where
-    pub spread_start : Spreading n nv next list from marks from marks
-    spread_start = record {
-      start = omega arith;
-      ok = rw (slice_empty from list) tt;
-      successors = successors_none (λ s. run (next_of nv next) s (slice from from list)) n marks (λ s. rw (slice_empty from list));
-    }
-
-    pub spread_more : (i : ℕ) (current after : List Bool) (v : ℕ) → Spreading n nv next list from marks i current → i < length list → v ≡ get_or list i 0 → v < nv → Successors (λ s. get_or next (s * nv + v) 0) n current after → Spreading n nv next list from marks (i + 1) after
-    spread_more i current after v g l ev hv m = record {
-      start = omega (arith, g.start);
-      ok = rw (slice_more list from i g.start l, ← ev) (each_append (λ x. x < nv) (slice from i list) (v ∷ []) g.ok (hv, tt));
-      successors = successors_then (λ s. run (next_of nv next) s (slice from i list)) (λ s. get_or next (s * nv + v) 0) (λ s. run (next_of nv next) s (slice from (i + 1) list)) n marks current after
-          (λ s. rw (slice_more list from i g.start l, ← ev, run_append)) (λ s h. run_under s (slice from i list) h g.ok) g.successors m;
-    }
+  -- the vectors before place i have been fed, and that at i is
+  pub spread_more : (list : List ℕ) (marks current after : List Bool) (i v : ℕ) → i < length list → ((j : ℕ) → j < length list → get_or list j 0 < nv) → v ≡ get_or list i 0
+      → Successors (λ s. run (next_of nv next) s (take i list)) n marks current → Successors (λ s. get_or next (s * nv + v) 0) n current after → Successors (λ s. run (next_of nv next) s (take (i + 1) list)) n marks after
+  spread_more list marks current after i v l o e g m =
+      successors_then (λ s. run (next_of nv next) s (take i list)) (λ s. get_or next (s * nv + v) 0) (λ s. run (next_of nv next) s (take (i + 1) list)) n marks current after
+      (λ s. rw (add-one, take-suc list i 0 l, ← e, run_append)) (λ s h. run_under s (take i list) h (each_taken (λ x. x < nv) list i o)) g m
 
 -- the marks are those of the states in which one design may be after the list l, from any state below n
 pub record After (next : ℕ → ℕ → ℕ) (n : ℕ) (l : List ℕ) (marks : List Bool) : Type 0 where

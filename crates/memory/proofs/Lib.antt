@@ -8,3 +8,4 @@ pub mod Tests
 pub mod Lists
 pub mod Computed
 pub mod Tables
+pub mod Checked

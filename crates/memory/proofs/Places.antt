@@ -131,3 +131,16 @@ pub none_earlier : (a b : ℕ) → a ≡ 0 → earlier_number a b ≡ b
 unfolding earlier_number
 none_earlier zero b z = refl
 none_earlier (suc a) b z = absurd (omega arith)
+
+-- of two numbers of refusals it is the one or the other
+pub earlier_other : (a b : ℕ) → 0 < a → 0 < b → (earlier_number a b ≡ a → ⊥) → b ≡ earlier_number a b
+earlier_other a b h l n = go (dec_lt (place_in table_order b) (place_in table_order a))
+  where
+    go : Dec (place_in table_order b < place_in table_order a) → b ≡ earlier_number a b
+    go (yes p) = earlier_first a b h l p
+    go (no p) = absurd (n (sym (earlier_second a b h l (omega arith))))
+
+-- what the bodies of `earlier_number` and `place` stand on
+pub ruleset earlier_number_is = (earlier_none, none_earlier, earlier_first, earlier_second)
+
+pub ruleset place_is = (place_low, place_19, place_10, place_21, place_high, place_20, place_last, place_none)

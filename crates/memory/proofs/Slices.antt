@@ -1,21 +1,12 @@
 -- Laws on lists of zeros.
-use Prim.Native.Nat.{ℕ, ◌+◌, ◌<◌}
+use Prim.Native.Nat.{ℕ, ◌<◌}
 use mathlib.Core.Path.{◌≡◌, sym, ap, ◌∙◌}
 use mathlib.Core.List.{List}
 use native.Mathlib.Omega.{arith}
 use native.Mathlib.Decide.{dec_lt}
-use borrow.Author.Count.{below_more}
-use lib.ListN.{length, get_or, take, set, length-set, get_or-eq_default}
-use lib.Seq.{get_or-take, get_or-set_same, get_or-set_other, ext_get_or}
+use lib.ListN.{length, get_or, take}
+use lib.Seq.{get_or-take, ext_get_or}
 use Rattle.memory.specs.Meaning.Slices.{ZeroFrom, Zero}
-
--- zero below the end is zero everywhere
-pub zero_of_below : (l : List ℕ) → ((k : ℕ) → k < length l → get_or l k 0 ≡ 0) → Zero l
-zero_of_below l z k _ = go (dec_lt k (length l))
-  where
-    go : Dec (k < length l) → get_or l k 0 ≡ 0
-    go (yes h) = z k h
-    go (no h) = get_or-eq_default l 0 (omega arith)
 
 -- two lists of zeros of one length are one list
 pub zero_unique : (a b : List ℕ) → length a ≡ length b → Zero a → Zero b → a ≡ b
@@ -28,16 +19,3 @@ front_unique n a b e f x y = ext_get_or 0 a b e (λ k h. go k (dec_lt k n))
     go : (k : ℕ) → Dec (k < n) → get_or a k 0 ≡ get_or b k 0
     go k (yes h) = sym (get_or-take n a k 0 h) ∙ ap (λ (l : List ℕ). get_or l k 0) f ∙ get_or-take n b k 0 h
     go k (no h) = x k (omega arith) ∙ sym (y k (omega arith))
-
--- the first i entries of l are 0, and it is as long as l₀
-pub record ZeroBelow (i : ℕ) (l₀ l : List ℕ) : Type 0 where
-  pub size : length l ≡ length l₀
-  pub below : (k : ℕ) → k < i → get_or l k 0 ≡ 0
-
-pub zero_below_more : {i : ℕ} {l₀ l : List ℕ} → i < length l → ZeroBelow i l₀ l → ZeroBelow (i + 1) l₀ (set l i 0)
-zero_below_more {i} {l₀} {l} h w = record {
-  size = length-set l i 0 ∙ w.size;
-  below = below_more (λ (j : ℕ). get_or (set l i 0) j 0 ≡ 0) i
-      (λ j g. get_or-set_other l i j 0 0 (λ q. omega arith) ∙ w.below j g)
-      (get_or-set_same l i 0 0 h);
-}

@@ -3,6 +3,7 @@
 
 ghost use Rattle.std.specs.Prelude.{◌≡◌, get_or};
 ghost use Rattle.netlist.specs.Meaning.Gates.{kind_of, first_of, second_of};
+ghost use Rattle.netlist.specs.Meaning.Cells.{cell_base, nets_of};
 
 use limits::Image;
 
@@ -27,6 +28,8 @@ pub struct Cell {
 // Nets 0 and 1 are the constants; then come the inputs, the flip-flops and the cells in order. At the clock a flip-flop becomes 0
 // where the value of its clear net is 1, else takes that of its data net where that of its enable net is 1, else holds its bit. An
 // output shows the value of its net.
+// Lists by flip-flop, not a list of flip-flops: `Taken`, `DesignFault`, `SameDesign`, `Encodes` and the laws on them speak of `d.data`,
+// `d.enable` and `d.clear`.
 #[derive(Clone, Copy)]
 pub struct Design {
     pub inputs: u8,
@@ -40,14 +43,27 @@ pub struct Design {
     pub shown: [u16; Image::MOST_OUTPUTS],
 }
 
+impl Design {
+    // The first net of a cell.
+    pub fn cell_base(&self) -> usize
+        ensures { result ≡ cell_base self.now }
+    {
+        2 + usize::from(self.inputs) + usize::from(self.latches)
+    }
+
+    // How many nets there are.
+    pub fn nets(&self) -> usize
+        ensures { result ≡ nets_of self.now }
+    {
+        self.cell_base() + usize::from(self.count)
+    }
+}
+
 // The net number at a place of a list, 0 past its end.
 pub fn net_at(nets: &[u16], k: usize) -> usize
     ensures { result ≡ get_or nets.now k 0 }
 {
-    if nets.len() <= k {
-        return 0;
-    }
-    nets[k] as usize
+    usize::from(nets.get(k).copied().unwrap_or(0))
 }
 
 pub fn kind_of(g: Gate) -> u16
@@ -69,14 +85,14 @@ pub fn first_of(g: Gate) -> u16
     ensures { result ≡ first_of g }
 {
     match g {
-        Gate::Buf(a) => a,
-        Gate::Not(a) => a,
-        Gate::And(a, _) => a,
-        Gate::Or(a, _) => a,
-        Gate::Xor(a, _) => a,
-        Gate::Nand(a, _) => a,
-        Gate::Nor(a, _) => a,
-        Gate::Xnor(a, _) => a,
+        Gate::Buf(a)
+        | Gate::Not(a)
+        | Gate::And(a, _)
+        | Gate::Or(a, _)
+        | Gate::Xor(a, _)
+        | Gate::Nand(a, _)
+        | Gate::Nor(a, _)
+        | Gate::Xnor(a, _) => a,
     }
 }
 
@@ -85,13 +101,12 @@ pub fn second_of(g: Gate) -> u16
     ensures { result ≡ second_of g }
 {
     match g {
-        Gate::Buf(_) => 0,
-        Gate::Not(_) => 0,
-        Gate::And(_, b) => b,
-        Gate::Or(_, b) => b,
-        Gate::Xor(_, b) => b,
-        Gate::Nand(_, b) => b,
-        Gate::Nor(_, b) => b,
-        Gate::Xnor(_, b) => b,
+        Gate::Buf(_) | Gate::Not(_) => 0,
+        Gate::And(_, b)
+        | Gate::Or(_, b)
+        | Gate::Xor(_, b)
+        | Gate::Nand(_, b)
+        | Gate::Nor(_, b)
+        | Gate::Xnor(_, b) => b,
     }
 }

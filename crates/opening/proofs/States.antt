@@ -5,10 +5,10 @@ use mathlib.Core.Logic.{◌⊎◌, inl, inr}
 use native.Mathlib.Omega.{arith}
 use Rattle.numbers.proofs.Order.{not_lt, lt_of_not_le}
 use Rattle.memory.specs.Meaning.Orders.{table_order}
-use Rattle.memory.specs.Meaning.Refusals.{Free, FirstOrNone}
+use Rattle.memory.specs.Meaning.Refusals.{Free, First}
 use Rattle.memory.specs.Working.Lowest.{place_in}
 use Rattle.memory.proofs.Places.{place_high, place_20, first_of_place}
-use Rattle.memory.proofs.Refusals.{some_number, no_number, first_then}
+use Rattle.memory.proofs.Refusals.{first_then}
 use Rattle.memory.proofs.Table.{listed_stands}
 use Rattle.machine.specs.declared.Pair.{Pair}
 use Rattle.machine.specs.Meaning.Tables.{Tables, In}
@@ -30,18 +30,18 @@ module _ {t : Tables} {room : ℕ} {p : Pair} where
   state_some (StateFault.old_state h) = omega arith
   state_some (StateFault.new_state h) = omega arith
 
-  pub at_call : {n : ℕ} → (n ≡ 0 → ⊥) → FirstOrNone (TablesFault t room) n → FirstOrNone (StateFault t room p) n
-  at_call {n} e l = some_number (first_then (λ m f. StateFault.call (VectorsFault.tables f)) (l.some e) (λ m f. go f))
+  pub at_call : {n : ℕ} → First (TablesFault t room) n → First (StateFault t room p) n
+  at_call {n} l = first_then (λ m f. StateFault.call (VectorsFault.tables f)) l (λ m f. go f)
     where
       go : {m : ℕ} → StateFault t room p m → TablesFault t room m ⊎ (place_in table_order n ≤ place_in table_order m)
       go (StateFault.call (VectorsFault.tables f)) = inl f
-      go (StateFault.call (VectorsFault.allowed w)) = inr (omega (arith, tables_place (l.some e).applies, place_20 20 refl))
-      go (StateFault.old_state o) = inr (omega (arith, tables_place (l.some e).applies, place_14))
-      go (StateFault.new_state o) = inr (omega (arith, tables_place (l.some e).applies, place_14))
+      go (StateFault.call (VectorsFault.allowed w)) = inr (omega (arith, tables_place l.applies, place_20 20 refl))
+      go (StateFault.old_state o) = inr (omega (arith, tables_place l.applies, place_14))
+      go (StateFault.new_state o) = inr (omega (arith, tables_place l.applies, place_14))
 
   module _ (none : Free (TablesFault t room)) where
-    pub at_14 : StateFault t room p 14 → FirstOrNone (StateFault t room p) 14
-    at_14 s = some_number (first_of_place (listed_stands 14 table_order tt) s (λ m f. go f))
+    pub at_14 : StateFault t room p 14 → First (StateFault t room p) 14
+    at_14 s = first_of_place (listed_stands 14 table_order tt) s (λ m f. go f)
       where
         go : {m : ℕ} → StateFault t room p m → place_in table_order 14 ≤ place_in table_order m
         go (StateFault.call (VectorsFault.tables f)) = absurd (none _ f)
@@ -50,8 +50,8 @@ module _ {t : Tables} {room : ℕ} {p : Pair} where
         go (StateFault.new_state o) = omega arith
 
     module _ (i : In t.sizes p) where
-      pub at_20 : WrongAllowed t.sizes → FirstOrNone (StateFault t room p) 20
-      at_20 w = some_number (first_of_place (listed_stands 20 table_order tt) (StateFault.call (VectorsFault.allowed w)) (λ m f. go f))
+      pub at_20 : WrongAllowed t.sizes → First (StateFault t room p) 20
+      at_20 w = first_of_place (listed_stands 20 table_order tt) (StateFault.call (VectorsFault.allowed w)) (λ m f. go f)
         where
           go : {m : ℕ} → StateFault t room p m → place_in table_order 20 ≤ place_in table_order m
           go (StateFault.call (VectorsFault.tables f)) = absurd (none _ f)
@@ -59,8 +59,8 @@ module _ {t : Tables} {room : ℕ} {p : Pair} where
           go (StateFault.old_state o) = absurd (not_lt o i.in_old)
           go (StateFault.new_state o) = absurd (not_lt o i.in_new)
 
-      pub at_none : (WrongAllowed t.sizes → ⊥) → FirstOrNone (StateFault t room p) 0
-      at_none right = no_number (λ m f. go f)
+      pub at_none : (WrongAllowed t.sizes → ⊥) → Free (StateFault t room p)
+      at_none right m f = go f
         where
           go : {m : ℕ} → StateFault t room p m → ⊥
           go (StateFault.call (VectorsFault.tables f)) = none _ f

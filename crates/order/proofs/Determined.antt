@@ -1,14 +1,17 @@
 -- What an order says of its length: its entries are cells, no more of them than there are; and two plans of one design have one number and
 -- count the same cells, whichever orders they have.
 use Prim.Native.Nat.{ℕ, ◌<◌, ◌≤◌}
-use mathlib.Core.Path.{◌≡◌, sym, ◌∙◌, ap}
+use mathlib.Core.Path.{◌≡◌, refl, sym, ◌∙◌, ap}
 use mathlib.Core.List.{List}
 use native.Mathlib.Omega.{arith}
-use native.Mathlib.Decide.{ℕ_discrete, dec_lt}
+use native.Mathlib.Decide.{dec_lt}
 use lib.ListN.{get_or}
 use Rattle.numbers.proofs.Order.{le_of_not_lt}
 use Rattle.numbers.proofs.Pigeon.{pigeon}
-use Rattle.memory.proofs.Refusals.{alone_unique}
+use Rattle.std.specs.Prelude.{Result, Ok, Err}
+use Rattle.memory.specs.declared.Refusal.{Refusal}
+use Rattle.memory.proofs.Checked.{checked_unique}
+use Rattle.netlist.specs.Meaning.Faults.{DesignFault}
 use Rattle.netlist.specs.declared.Design.{Design}
 use Rattle.netlist.proofs.Kept.{kept_lt}
 use Rattle.order.specs.Meaning.Order.{Ordered, Plans}
@@ -47,15 +50,18 @@ module _ (d : Design) (l k : List ℕ) (n m : ℕ) (o : Ordered d l n) (p : Orde
           let y = (place_at b (dec_lt b n) (omega (arith, t.3))).1 in
           o.once a b t.2 (omega (arith, t.3)) (sym x ∙ ap (λ (z : ℕ). get_or k z 0) t.4 ∙ y)
 
-pub one_plan : (d : Design) {a b n m : ℕ} {l k : List ℕ} → Plans d a n l → Plans d b m k → (a ≡ b) × (n ≡ m)
-one_plan d {a} {b} {n} {m} {l} {k} p q = (e, go (ℕ_discrete a 0))
+pub one_plan : (d : Design) {a b : Result (Unit {0}) Refusal} {n m : ℕ} {l k : List ℕ} → Plans d a n l → Plans d b m k → (a ≡ b) × (n ≡ m)
+one_plan d {a} {b} {n} {m} {l} {k} p q = (e, go a refl)
   where
     e : a ≡ b
-    e = alone_unique p.first q.first
+    e = checked_unique (DesignFault d) a b p.first q.first
 
-    go : Dec (a ≡ 0) → n ≡ m
-    go (yes z) =
+    error_ok : {r : Refusal} → ◌≡◌ {A = Result (Unit {0}) Refusal} (Err r) (Ok tt) → ⊥
+    error_ok e = cc
+
+    go : (x : Result (Unit {0}) Refusal) → a ≡ x → n ≡ m
+    go (Ok u) z =
         let o = p.ordered z in
         let w = q.ordered (sym e ∙ z) in
         omega (arith, at_most d l k n m o w, at_most d k l m n w o)
-    go (no z) = p.refused z ∙ sym (q.refused (λ y. z (e ∙ y)))
+    go (Err r) z = p.refused (λ y. error_ok (sym z ∙ y)) ∙ sym (q.refused (λ y. error_ok (sym z ∙ e ∙ y)))

@@ -1,4 +1,5 @@
 pub mod NoLoop
 pub mod Marking
+pub mod Placing
 pub mod Planning
 pub mod Determined

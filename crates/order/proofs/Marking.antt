@@ -28,7 +28,8 @@ use Rattle.netlist.proofs.Loops.{clash, both_true, reads_unmarked, KeptLoop, stu
 use Rattle.kept.specs.Working.{TellsKept}
 use Rattle.kept.proofs.Finding.{live_few}
 use Rattle.order.specs.Meaning.Order.{Earlier, Runs, Ordered}
-use Rattle.order.specs.Working.Placing.{NextReady}
+use Rattle.order.specs.Working.Placing.{Placeable, NextReady}
+use Rattle.std.specs.Prelude.{None}
 
 -- how many cells are not marked
 abbrev unmarked : Design → List Bool → ℕ
@@ -73,8 +74,8 @@ ready_cases base m n = go (ltb n base) refl
     go true e h = inl (ltb-true n base e)
     go false e h = inr (ltb-false n base e, h)
 
-module _ (d : Design) (kept : ℕ) (cells : List ℕ) (marks : List Bool) (k i : ℕ) (sound : Sound d) (h : k < 256) (lt : i < d.count)
-    (r : NextReady d (λ j. get_or marks j false) i) (w : Marking d kept cells marks k) where
+module _ (d : Design) (kept : ℕ) (cells : List ℕ) (marks : List Bool) (k i : ℕ) (sound : Sound d) (h : k < 256)
+    (r : Placeable d (λ j. get_or marks j false) i) (w : Marking d kept cells marks k) where
   at_old : (j : ℕ) → j < k → get_or (set cells k i) j 0 ≡ get_or cells j 0
   at_old j q = get_or-set_other cells k j i 0 (λ e. omega arith)
 
@@ -82,14 +83,14 @@ module _ (d : Design) (kept : ℕ) (cells : List ℕ) (marks : List Bool) (k i :
   at_new = get_or-set_same cells k i 0 (omega (arith, w.runs.size))
 
   fresh : get_or marks i false ≡ false
-  fresh = r.fresh lt
+  fresh = r.fresh
 
   before_old : (j x : ℕ) → j ≤ k → Earlier d cells j x → Earlier d (set cells k i) j x
   before_old j x q (inl a) = inl a
   before_old j x q (inr a) = inr (a.0, a.1, a.2 ∙ ap (λ (y : ℕ). cell_base d + y) (sym (at_old a.0 (omega (arith, a.1)))))
 
   live_new : Kept d i
-  live_new = w.live i lt fresh
+  live_new = w.live i r.within fresh
 
   before_new : (x : ℕ) → Live d x → x < cell_base d + d.count → ready_net (cell_base d) (λ j. get_or marks j false) x ≡ true → Earlier d (set cells k i) k x
   before_new x live b e =
@@ -99,15 +100,15 @@ module _ (d : Design) (kept : ℕ) (cells : List ℕ) (marks : List Bool) (k i :
       (ready_cases (cell_base d) (λ j. get_or marks j false) x e))
 
   both : (ready_net (cell_base d) (λ j. get_or marks j false) (first_of (gate_at d i)) ≡ true) × (ready_net (cell_base d) (λ j. get_or marks j false) (second_of (gate_at d i)) ≡ true)
-  both = both_true _ _ (r.ready lt)
+  both = both_true _ _ r.ready
 
   runs_more : Runs d (set cells k i) (k + 1)
   runs_more = record {
     size = length-set cells k i ∙ w.runs.size;
     one = below_more (λ (j : ℕ). Earlier d (set cells k i) j (first_of (gate_at d (get_or (set cells k i) j 0)))) k
-        (λ j q. rw (at_old j q) (before_old j _ (omega arith) (w.runs.one j q))) (rw at_new (before_new _ (live_first d live_new) (sound.firsts i lt) both.0));
+        (λ j q. rw (at_old j q) (before_old j _ (omega arith) (w.runs.one j q))) (rw at_new (before_new _ (live_first d live_new) (sound.firsts i r.within) both.0));
     two = below_more (λ (j : ℕ). Earlier d (set cells k i) j (second_of (gate_at d (get_or (set cells k i) j 0)))) k
-        (λ j q. rw (at_old j q) (before_old j _ (omega arith) (w.runs.two j q))) (rw at_new (before_new _ (live_second d live_new) (sound.seconds i lt) both.1));
+        (λ j q. rw (at_old j q) (before_old j _ (omega arith) (w.runs.two j q))) (rw at_new (before_new _ (live_second d live_new) (sound.seconds i r.within) both.1));
   }
 
   marked_same : get_or (set marks i true) i false ≡ true
@@ -119,7 +120,7 @@ module _ (d : Design) (kept : ℕ) (cells : List ℕ) (marks : List Bool) (k i :
   -- one unmarked cell fewer
   fewer : unmarked d marks ≡ 1 + unmarked d (set marks i true)
   fewer =
-      omega (arith, count_change (λ x. not (get_or (set marks i true) x false)) (λ x. not (get_or marks x false)) d.count i lt (λ t. rw marked_same at t) (rw fresh tt) (λ x u. ap not (get_or-set_other marks i x true false u)))
+      omega (arith, count_change (λ x. not (get_or (set marks i true) x false)) (λ x. not (get_or marks x false)) d.count i r.within (λ t. rw marked_same at t) (rw fresh tt) (λ x u. ap not (get_or-set_other marks i x true false u)))
 
   pub marking_more : Marking d kept (set cells k i) (set marks i true) (k + 1)
   marking_more = record {
@@ -160,8 +161,8 @@ whole d kept cells marks w = record { runs = w.runs; kept = w.placed; all = λ i
 
 -- fewer: some kept cell is not marked, and where none of those is ready, there is a loop
 pub stuck : (d : Design) (kept : ℕ) (cells : List ℕ) (marks : List Bool) (k : ℕ) → k < kept → Marking d kept cells marks k
-    → Sound d → NextReady d (λ j. get_or marks j false) d.count → KeptLoop d
+    → Sound d → NextReady d (λ j. get_or marks j false) None → KeptLoop d
 stuck d kept cells marks k h w s r =
     let x = count_some (λ i. not (get_or marks i false)) d.count (omega (arith, w.number)) in
     let e = is_false (get_or marks x.0 false) (T_not (get_or marks x.0 false) x.2) in
-    stuck_loops d (λ j. get_or marks j false) (λ i q f. reads_unmarked d s (λ j. get_or marks j false) i q (r.none refl i q f)) x.0 x.1 e (w.live x.0 x.1 e)
+    stuck_loops d (λ j. get_or marks j false) (λ i q f. reads_unmarked d s (λ j. get_or marks j false) i q (r i q f)) x.0 x.1 e (w.live x.0 x.1 e)

@@ -5,7 +5,7 @@ use mathlib.Core.Logic.{⊎_elim}
 use native.Mathlib.Omega.{arith}
 use Rattle.limits.specs.Meaning.Layout.{tails_for, bytes_for}
 use Rattle.netlist.specs.declared.Design.{Design}
-use Rattle.format.specs.declared.fields.Header.{Header}
+use Rattle.format.specs.declared.header.Header.{Header}
 use Rattle.format.specs.Meaning.Format.{bytes_of}
 use Rattle.format.specs.Meaning.Version.{version_of}
 use Rattle.format.proofs.Versions.{version_cases_of}

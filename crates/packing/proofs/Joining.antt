@@ -12,11 +12,11 @@ module _ (w : ℕ) (h : w ≤ net_bits) where
   power_le : 2 ^ w ≤ 2 ^ net_bits
   power_le = pow_mono {i = w} {j = net_bits} h
 
-  pub shift : (1 * 2 ^ w) % 4294967296 ≡ 2 ^ w
-  shift = omega (arith, power_le)
-
   pub product_le : (x : ℕ) → x < 2 ^ 20 → x * 2 ^ w ≤ 2 ^ 20 * 2 ^ net_bits
   product_le x l = mul-le-mul {n₂ = 2 ^ 20} (omega arith) power_le
+
+  pub shift : (x : ℕ) → x < 2 ^ 20 → (x * 2 ^ w) % 4294967296 ≡ x * 2 ^ w
+  shift x l = omega (arith, product_le x l)
 
 pub apart : (w : ℕ) {x z y v : ℕ} → joined x y w ≡ joined z v w → y < 2 ^ w → v < 2 ^ w → (x ≡ z) × (y ≡ v)
 apart w {x} {z} e p q =

@@ -1,26 +1,20 @@
-// Which vectors can occur at the inputs of two designs, and the number that names them.
+// Which vectors can occur at the inputs of two designs, and the number that names them: every one where nothing is said, or those that a
+// number allows.
 #![tactic(auto)]
 
 ghost use Rattle.std.specs.Prelude.{◌≡◌, ◌^◌, ◌≤◌};
 ghost use Rattle.machine.specs.Meaning.Allowed.{every_vector};
 ghost use Rattle.panel.specs.Meaning.Panel.{allowed_by};
 
-// Which vectors can occur at the inputs: every one, or those that a number allows.
-#[derive(Clone, Copy)]
-pub enum Panel {
-    Every,
-    Named(u64),
-}
-
-// The number that names the vectors which the panel lets occur, of those that so many inputs have.
-pub fn allowed_by(panel: Panel, inputs: u8) -> u64
+// The number that names the vectors which can occur, of those that so many inputs have.
+pub fn allowed_by(named: Option<u64>, inputs: u8) -> u64
     requires { inputs ≤ 6 }
-    ensures { result ≡ allowed_by panel (2 ^ inputs) }
+    ensures { result ≡ allowed_by named (2 ^ inputs) }
 {
-    let Panel::Named(number) = panel else {
-        return every(power(inputs));
-    };
-    number
+    match named {
+        Some(number) => number,
+        None => every(power(inputs)),
+    }
 }
 
 // The number that allows every one of v vectors.
@@ -29,7 +23,7 @@ fn every(v: usize) -> u64
     ensures { result ≡ every_vector v }
 {
     if v == 64 {
-        return 18446744073709551615;
+        return u64::MAX;
     }
     (1u64 << v) - 1
 }

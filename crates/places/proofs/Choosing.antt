@@ -1,32 +1,23 @@
 -- The number to take: that of the step before, or the lowest.
+use Rattle.std.proofs.Common.{Option, Some, None}
+use Rattle.std.specs.Option.{MatchOption}
 use mathlib.Core.Path.{◌≡◌, sym, ◌∙◌, subst}
 use Prim.Native.Nat.{ℕ, ◌<◌, ◌≤◌}
 use native.Mathlib.Omega.{arith}
-use Rattle.machine.specs.declared.Prior.{Prior}
 use Rattle.machine.proofs.Choice.{vector_inj, start_not, chosen_kept, chosen_lowest}
-use Rattle.places.specs.Working.{LowestBelow, ChosenBelow}
+use Rattle.places.specs.Working.{FirstBelow, TakenBy, kept, lowest, ChosenBelow}
 
--- nothing to keep: the step before has no number below n that has P
-pub record Unkept (s : Prior) (P : ℕ → Type 0) (n : ℕ) : Type 0 where
-  pub none : (u : ℕ) → s ≡ Prior.Vector u → u < n → P u → ⊥
+-- what `find` says of a range from 0
+pub first_below : (Y N : ℕ → Type 0) (n : ℕ) (r : Option ℕ) → MatchOption r ((k : ℕ) → 0 ≤ k → k < n → N k) (λ i. (0 ≤ i) × (i < n) × Y i × ((k : ℕ) → 0 ≤ k → k < i → N k)) → FirstBelow Y N n r
+first_below Y N n None f = λ w h. f w (omega arith) h
+first_below Y N n (Some v) f = (f.1, f.2, λ w h. f.3 w (omega arith) h)
 
--- the number of the step before, or the scan
-module _ {s : Prior} {P : ℕ → Type 0} {n : ℕ} where
-  pub keep : {u : ℕ} → s ≡ Prior.Vector u → u < n → P u → ChosenBelow s P n u
-  keep e h p = record { most = omega arith; found = λ l. chosen_kept e (h, p); none = λ l. absurd (omega arith) }
-
-  pub keep_none : s ≡ Prior.Start → Unkept s P n
-  keep_none e = record { none = λ u f. absurd (start_not (sym e ∙ f)) }
-
-  pub keep_beyond : {v : ℕ} → s ≡ Prior.Vector v → n ≤ v → Unkept s P n
-  keep_beyond e h = record { none = λ u f l. absurd (omega (arith, vector_inj (sym e ∙ f))) }
-
-  pub keep_other : {v : ℕ} → s ≡ Prior.Vector v → (P v → ⊥) → Unkept s P n
-  keep_other e h = record { none = λ u f l p. h (subst P (vector_inj (sym f ∙ e)) p) }
-
-  pub scanned : {v : ℕ} → Unkept s P n → LowestBelow P n v → ChosenBelow s P n v
-  scanned other w = record {
-    most = w.most;
-    found = λ l. chosen_lowest (λ u e q. other.none u e q.0 q.1) (l, w.found l) (λ u h q. w.below u h q.1);
-    none = λ l u h p. w.below u (omega arith) p;
-  }
+-- what a test says of each number below n: Y of those that have P, and N of the others
+module _ {Y N P : ℕ → Type 0} {n : ℕ} (yes : (w : ℕ) → w < n → Y w → P w) (no : (w : ℕ) → w < n → N w → P w → ⊥) where
+  pub chosen_of_taken : {s : Option ℕ} {r : Option ℕ} → TakenBy Y N n s r → ChosenBelow s P n r
+  chosen_of_taken {s} (kept u e h y q) = subst (λ (o : Option ℕ). ChosenBelow s P n o) (sym q) (h, chosen_kept e (h, yes u h y))
+  chosen_of_taken {s} {r} (lowest f b) = go r b
+    where
+      go : (o : Option ℕ) → FirstBelow Y N n o → ChosenBelow s P n o
+      go None b = λ w h p. no w h (b w h) p
+      go (Some v) b = (b.0, chosen_lowest (λ u e q. no u q.0 (f u e q.0) q.1) (b.0, yes v b.0 b.1) (λ w h q. no w q.0 (b.2 w h) q.1))

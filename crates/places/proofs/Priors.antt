@@ -1,20 +1,17 @@
--- The step before an entry of a list.
-use mathlib.Core.Path.{◌≡◌, refl, sym, ap, ◌∙◌}
+-- The step before an entry of a list: its last, where it has one.
+use Rattle.std.proofs.Common.{Option, Some, None}
+use Rattle.std.specs.Prelude.{slice_get}
+use mathlib.Core.Path.{◌≡◌, refl}
 use mathlib.Core.List.{List, [], ◌∷◌}
-use Prim.Native.Nat.{ℕ, zero, suc, ◌<◌, ◌≤◌, ◌-◌}
+use Prim.Native.Nat.{ℕ, ◌-◌}
 use native.Mathlib.Omega.{arith}
-use lib.ListN.{length, get_or, take}
-use Rattle.machine.specs.declared.Prior.{Prior}
+use lib.ListN.{length}
 use Rattle.machine.specs.Meaning.Pick.{after}
 
--- the step before entry n of a list
-take_after : (s : Prior) (l : List ℕ) (n : ℕ) → n < length l → after s (take (suc n) l) ≡ Prior.Vector (get_or l n 0)
-take_after s [] n h = absurd (omega arith)
-take_after s (v ∷ l) zero h = refl
-take_after s (v ∷ l) (suc n) h = take_after (Prior.Vector v) l n (omega arith)
+last_behind : (s : Option ℕ) (v : ℕ) (l : List ℕ) → slice_get (v ∷ l) (length l) ≡ after s (v ∷ l)
+last_behind s v [] = refl
+last_behind s v (u ∷ l) = last_behind (Some v) u l
 
-pub prior_after : (l : List ℕ) (n : ℕ) → (n ≡ 0 → ⊥) → n ≤ length l → (v : ℕ) → v ≡ get_or l (n - 1) 0 → Prior.Vector v ≡ after Prior.Start (take n l)
-prior_after l zero o h v e = absurd (o refl)
-prior_after l (suc n) o h v e =
-    let q : suc n - 1 ≡ n = omega arith in
-    sym (take_after Prior.Start l n (omega arith) ∙ ap (λ (i : ℕ). Prior.Vector (get_or l i 0)) (sym q) ∙ ap (λ (x : ℕ). Prior.Vector x) (sym e))
+pub last_after : (l : List ℕ) → slice_get l (length l - 1) ≡ after None l
+last_after [] = refl
+last_after (v ∷ l) = let e : length (v ∷ l) - 1 ≡ length l = omega arith in rw e (last_behind None v l)

@@ -1,16 +1,15 @@
-// Places in tables and maps: entries, numbers of pairs, the pair after a step, and the step before an entry of a list; and which vectors
-// are allowed.
+// Places in tables and maps: numbers of pairs, the pair after a step, and the step before an entry of a list; which vectors are allowed, and
+// which of those that pass a test is taken.
 #![tactic(auto)]
 
-ghost use Rattle.std.specs.Prelude.{◌≡◌, ◌<◌, ◌≤◌, length, get_or, take};
-ghost use Rattle.machine.specs.declared.Prior.{Prior};
+ghost use Rattle.std.specs.Prelude.{◌≡◌, ℕ, ◌<◌, ◌≤◌, true, false, length, take, None};
 ghost use Rattle.machine.specs.Meaning.Pick.{after};
-ghost use Rattle.machine.specs.Meaning.Tables.{pairs, at, In, Ok};
+ghost use Rattle.machine.specs.Meaning.Tables.{pairs, at, In, Ok, tables_in};
 ghost use Rattle.memory.specs.Working.Tests.{Tells};
 ghost use Rattle.machine.specs.Working.Pairs.{pair_at};
-ghost use Rattle.places.specs.Working.{Few, Nexts, PlaceOf, move};
+ghost use Rattle.places.specs.Working.{Few, NextsIn, PlaceOf, move_in, TakenBy};
 
-use machine::{Pair, Prior, Sizes};
+use machine::{Pair, Sizes, TablesRef};
 
 // The place of column v in row s of a table of n rows of m columns.
 pub fn place_of(s: usize, v: usize, n: usize, m: usize) -> usize
@@ -21,30 +20,6 @@ pub fn place_of(s: usize, v: usize, n: usize, m: usize) -> usize
     ensures { PlaceOf s v n m result }
 {
     s * m + v
-}
-
-// The byte at a place, as a number.
-pub fn byte_at(t: &[u8], i: usize) -> usize
-    requires { i < length t.now }
-    ensures { result ≡ get_or t.now i 0 }
-{
-    t[i] as usize
-}
-
-// The 16-bit number at a place, as a number.
-pub fn number_at(d: &[u16], i: usize) -> usize
-    requires { i < length d.now }
-    ensures { result ≡ get_or d.now i 0 }
-{
-    d[i] as usize
-}
-
-// A vector as a byte.
-pub fn narrow(v: usize) -> u8
-    requires { v < 64 }
-    ensures { result ≡ v }
-{
-    v as u8
 }
 
 // How many pairs there are.
@@ -60,9 +35,10 @@ pub fn pair_at(sizes: Sizes, i: usize) -> Pair
     requires { i < pairs sizes }
     ensures { (result ≡ pair_at sizes i) × In sizes result }
 {
-    let old = i / sizes.new;
-    let new = i % sizes.new;
-    Pair { old, new }
+    Pair {
+        old: i / sizes.new,
+        new: i % sizes.new,
+    }
 }
 
 // Whether the vector v is allowed.
@@ -75,38 +51,52 @@ pub fn allows(sizes: Sizes, v: usize) -> bool
 }
 
 // The pair after one step of both designs.
-pub fn next(old_next: &[u8], new_next: &[u8], sizes: Sizes, p: Pair, v: usize) -> Pair
-    requires nexts { Nexts sizes old_next.now new_next.now }
-    requires fact { In sizes p }
-    requires v_lt_vectors { v < sizes.vectors }
-    ensures { (result ≡ move sizes old_next.now new_next.now p v) × In sizes result }
+pub fn next(tables: &TablesRef<'_>, p: Pair, v: usize) -> Pair
+    requires nexts { NextsIn (tables_in tables.now) }
+    requires pair_in { In tables.now.sizes p }
+    requires v_lt_vectors { v < tables.now.sizes.vectors }
+    ensures { (result ≡ move_in (tables_in tables.now) p v) × In tables.now.sizes result }
 {
+    let sizes = tables.sizes;
     let i = place_of(p.old, v, sizes.old, sizes.vectors);
     let j = place_of(p.new, v, sizes.new, sizes.vectors);
-    let old = byte_at(old_next, i);
-    let new = byte_at(new_next, j);
-    Pair { old, new }
+    Pair {
+        old: usize::from(tables.old.next[i]),
+        new: usize::from(tables.new.next[j]),
+    }
 }
 
 // What the map holds for a pair.
 pub fn map_at(sizes: Sizes, map: &[u16], p: Pair) -> usize
     requires few { Few sizes }
-    requires fact { In sizes p }
+    requires pair_in { In sizes p }
     requires sizes_in_bounds { pairs sizes ≤ length map.now }
     ensures { result ≡ at sizes map.now p }
 {
-    let i = place_of(p.old, p.new, sizes.old, sizes.new);
-    number_at(map, i)
+    usize::from(map[place_of(p.old, p.new, sizes.old, sizes.new)])
 }
 
 // What comes before entry n of a list that nothing comes before.
-pub fn prior_at(list: &[u8], n: usize) -> Prior
+pub fn prior_at(list: &[u8], n: usize) -> Option<usize>
     requires { n ≤ length list.now }
-    ensures { result ≡ after Prior.Start (take n list.now) }
+    ensures { result ≡ after None (take n list.now) }
 {
-    if n == 0 {
-        return Prior::Start;
+    list[..n].last().map(|v| usize::from(*v))
+}
+
+// Of the n lowest vectors that pass a test the one to take: that of the step before, where it passes, and else the lowest.
+pub fn taken<F: Fn(usize) -> bool>(n: usize, prior: Option<usize>, test: F) -> Option<usize>
+    requires { (v : ℕ) → v < n → F.pre test v }
+    ensures { TakenBy (λ v. F.post test v true) (λ v. F.post test v false) n prior result }
+{
+    if let Some(u) = prior {
+        if u < n && test(u) {
+            return prior;
+        }
     }
-    let v = byte_at(list, n - 1);
-    Prior::Vector(v)
+    (0..n).find(
+        |v|
+            requires { F.pre test v.now }
+        { test(*v) },
+    )
 }

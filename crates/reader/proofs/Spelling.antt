@@ -3,10 +3,9 @@ use Prim.Native.Nat.{ℕ, ◌+◌, ◌-◌, ◌*◌, ◌/◌, ◌%◌, ◌^◌, 
 use mathlib.Core.Path.{◌≡◌, sym, ◌∙◌, ap, subst}
 use mathlib.Core.List.{List}
 use native.Mathlib.Omega.{arith}
-use native.Mathlib.Nat.{mod-lt, mod-eq_of_lt, add_assoc, zero-div}
+use native.Mathlib.Nat.{mod-lt, mod-eq_of_lt, add_assoc}
 use lib.Dec.{lit<}
-use lib.Pow.{pow_mono}
-use lib.ListN.{length, get_or, get_or-eq_default}
+use lib.ListN.{length, get_or}
 use lib.Seq.{ext_get_or}
 use Rattle.numbers.specs.Meaning.Bits.{bit_of, horner}
 use Rattle.numbers.proofs.Digits.{horner_cong, horner_digit, horner_bits, horner_lt, horner_append, zero_digits, horner_some}
@@ -16,18 +15,10 @@ pub bit_lt : (b : List ℕ) (i : ℕ) → bit_at b i < 2
 unfolding bit_at
 bit_lt b i = mod-lt _ (lit< tt)
 
-pub bit_past : (b : List ℕ) (i : ℕ) → length b ≤ i / 8 → bit_at b i ≡ 0
-unfolding bit_at
-bit_past b i h = rw (get_or-eq_default b 0 h, zero-div)
-
 module _ (b : List ℕ) (at : ℕ) where
   pub field_lt : (w : ℕ) → field_at b at w < 2 ^ w
   unfolding field_at
   field_lt w = horner_lt (λ j. bit_at b (at + j)) w (λ j. bit_lt b (at + j))
-
-  -- room for one bit more
-  pub field_room : (k : ℕ) → k < 16 → field_at b at k * 2 + 1 < 2 ^ 16
-  field_room k h = omega (arith, field_lt k, pow_mono {i = k} {j = 15} (omega arith))
 
   -- a field from its bits, and a bit from its field
   pub field_of : (w x : ℕ) → x < 2 ^ w → ((j : ℕ) → j < w → bit_at b (at + j) ≡ bit_of w x j) → field_at b at w ≡ x

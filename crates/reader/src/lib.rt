@@ -15,7 +15,8 @@ pub struct Numbers {
     pub fifth: u16,
 }
 
-// Takes five fields one behind the other, from bit `at` on; a field of no bits is 0. Whoever calls this has plain parameters.
+// Takes five fields one behind the other, from bit `at` on; a field of no bits is 0. One call for
+// all: the program align_allowed takes its four words by this contract too.
 pub fn run(image: &[u8], at: usize, a: usize, b: usize, c: usize, d: usize, e: usize) -> Numbers
     requires { (at < 65472) × ((a ≤ 16) × ((b ≤ 16) × ((c ≤ 16) × ((d ≤ 16) × (e ≤ 16))))) }
     ensures { result ≡ run_at image.now at a b c d e }
@@ -73,22 +74,13 @@ fn spell(image: &[u8], at: usize, width: usize) -> u16
     requires { (at < 65536) × (width ≤ 16) }
     ensures { (result ≡ field_at image.now at width) × (result < 2 ^ width) }
 {
-    let mut n: u16 = 0;
-    let mut k: usize = 0;
-    while k < width {
-        n = n * 2 + bit(image, at + k);
-        k += 1;
-    }
-    n
+    numbers::spelled(width, |k| bit(image, at + k))
 }
 
 // Bit i of the image, 0 past its end.
 fn bit(image: &[u8], i: usize) -> u16
     ensures { result ≡ bit_at image.now i }
 {
-    let k = i / 8;
-    if k < image.len() {
-        return ((image[k] >> (7 - i % 8)) % 2) as u16;
-    }
-    0
+    let byte = image.get(i / 8).copied().unwrap_or(0);
+    u16::from((byte >> (7 - i % 8)) % 2)
 }

@@ -5,12 +5,16 @@
 mod lines;
 mod steps;
 
-ghost use Rattle.std.specs.Prelude.{◌+◌, ◌*◌, ◌≤◌, length, take};
+ghost use Rattle.std.specs.Prelude.{◌+◌, ◌*◌, ◌≤◌, length};
+ghost use Rattle.memory.specs.Meaning.Refusals.{number_of};
+ghost use Rattle.machine.specs.Meaning.Tables.{tables_in};
 ghost use Rattle.pieces.specs.Meaning.Pieces.{Printed};
-ghost use Rattle.report.specs.Meaning.Text.{refusal_text, same_text, shown_tables, apart_in};
+ghost use Rattle.report.specs.Meaning.Text.{refusal_text, same_text, apart_in};
 ghost use Rattle.report.specs.Working.Tracing.{Small};
 
-use machine::{Pair, Sizes};
+use machine::{Pair, TablesRef};
+use memory::Refusal;
+use pieces::Text;
 
 // What is printed in front of a verdict.
 #[derive(Clone, Copy)]
@@ -33,52 +37,45 @@ pub enum Side {
 }
 
 // A refusal: its number, and nothing else.
-pub fn put_refusal(who: Side, number: u8, text: &mut [u8]) -> usize
+pub fn put_refusal(who: Side, reason: Refusal, text: &mut [u8]) -> usize
     requires { 40 ≤ length text.old }
-    ensures { Printed (refusal_text who number) text.new result }
+    ensures { Printed (refusal_text who (number_of reason)) text.new result }
 {
-    let n = pieces::wide(number);
+    let n = usize::from(reason.number());
     match who {
-        Side::Old => pieces::put_last_field(b"REFUSED OLD ", n, text, 0),
-        Side::New => pieces::put_last_field(b"REFUSED NEW ", n, text, 0),
-        Side::Both => pieces::put_last_field(b"REFUSED BOTH ", n, text, 0),
+        Side::Old => pieces::put_line(b"REFUSED OLD ", n, text),
+        Side::New => pieces::put_line(b"REFUSED NEW ", n, text),
+        Side::Both => pieces::put_line(b"REFUSED BOTH ", n, text),
     }
 }
 
-// Same, with the first n vectors of the list.
-pub fn put_same(facts: Facts, list: &[u8], n: usize, text: &mut [u8]) -> usize
-    requires n_in_bounds { n ≤ length list.now }
-    requires n_in_bounds_2 { 400 + 12 * n ≤ length text.old }
-    ensures { Printed (same_text facts (take n list.now)) text.new result }
+// Same, with the vectors of its list.
+pub fn put_same(facts: Facts, list: &[u8], text: &mut [u8]) -> usize
+    requires { 400 + 12 * length list.now ≤ length text.old }
+    ensures { Printed (same_text facts list.now) text.new result }
 {
-    let head = lines::put_head(facts, text);
-    let at = pieces::put_last_field(b"SAME ", n, text, head);
-    lines::put_vectors(list, n, text, at)
+    let mut text = Text::new(text);
+    lines::put_head(facts, &mut text);
+    text.put_last_field(b"SAME ", list.len());
+    lines::put_vectors(list, &mut text);
+    text.end
 }
 
-// Apart, with the pair p and the first n vectors of its trace.
+// Apart, with the pair p and the vectors of its trace.
 pub fn put_apart(
-    old_next: &[u8],
-    old_out: &[u8],
-    new_next: &[u8],
-    new_out: &[u8],
-    sizes: Sizes,
+    tables: &TablesRef<'_>,
     facts: Facts,
     p: Pair,
     list: &[u8],
-    n: usize,
     text: &mut [u8],
 ) -> usize
-    requires small { Small sizes p }
-    requires n_in_bounds { n ≤ length list.now }
-    requires n_in_bounds_2 { 400 + 12 * n ≤ length text.old }
-    ensures { Printed
-        (apart_in (shown_tables sizes old_next.now old_out.now new_next.now new_out.now) facts p (take n list.now))
-        text.new result }
+    requires small { Small tables.now.sizes p }
+    requires room { 400 + 12 * length list.now ≤ length text.old }
+    ensures { Printed (apart_in (tables_in tables.now) facts p list.now) text.new result }
 {
-    let head = lines::put_head(facts, text);
-    let at = lines::put_pair(p, n, text, head);
-    steps::put_steps(
-        old_next, old_out, new_next, new_out, sizes, p, list, n, text, at,
-    )
+    let mut text = Text::new(text);
+    lines::put_head(facts, &mut text);
+    lines::put_pair(p, list.len(), &mut text);
+    steps::put_steps(tables, p, list, &mut text);
+    text.end
 }

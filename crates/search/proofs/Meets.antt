@@ -10,13 +10,17 @@ use lib.ListN.{length, get_or, set, length-set}
 use lib.Seq.{get_or-set_same, get_or-set_other}
 use Rattle.machine.specs.declared.Pair.{Pair}
 use Rattle.machine.specs.declared.Sizes.{Sizes}
+use Rattle.machine.specs.declared.TablesRef.{TablesRef}
 use Rattle.machine.specs.Meaning.Tables.{pairs, number, at, In}
 use Rattle.machine.specs.Working.Pairs.{pair_at}
 use Rattle.machine.proofs.Numbers.{number_in, number_inj, pair_at_in, at_pair}
 use Rattle.numbers.specs.Meaning.Count.{count_of}
 use Rattle.numbers.proofs.Counting.{count_le, count_change}
 use Rattle.numbers.proofs.Order.{tri}
+use Rattle.places.proofs.Places.{few_pairs}
+use Rattle.search.specs.declared.Sweep.{Sweep}
 use Rattle.search.specs.Working.{Writable, Met}
+use Rattle.search.specs.Sweeps.{MetIn}
 
 zeros_set : (d : List ℕ) (n i x : ℕ) → i < n → i < length d → get_or d i 0 ≡ 0 → 0 < x → count_of 0 d n ≡ suc (count_of 0 (set d i x) n)
 zeros_set d n i x h l z p =
@@ -93,9 +97,6 @@ module _ {z : Sizes} {k : ℕ} where
     pub met_few : r ≤ pairs z
     met_few = omega (arith, a.counts, count_le (λ i. eqb (get_or d i 0) 0) (pairs z))
 
-    pub met_writable : Writable z k d rows → Writable z k d' rows'
-    met_writable w = record { few = w.few; some = w.some; most = w.most; room = omega (arith, a.long, w.room); marks = a.rows_long ∙ w.marks }
-
     -- the maps before and after agree on who holds k
     module _ (pos : 0 < k) where
       pub met_back : (q : ℕ) → q < pairs z → get_or d' q 0 ≡ k → get_or d q 0 ≡ k
@@ -125,3 +126,23 @@ module _ {z : Sizes} {k : ℕ} where
         each p h (inl x) (inr y) = inr (sym x ∙ y.0, y.1, two p h y.2)
         each p h (inr x) (inl y) = inr (x.0, y ∙ x.1, one p h x.2)
         each p h (inr x) (inr y) = absurd (omega (arith, x.1, y.0))
+
+-- the same of a round under way
+pub meets_none : {P : Pair → Type 0} {s : Sweep} → ((p : Pair) → In s.tables.sizes p → P p → at s.tables.sizes s.map.now p ≡ 0 → ⊥) → MetIn P s s 0
+meets_none f = record { tables = refl; k = refl; place = refl; met = met_none f }
+
+module _ {P : Pair → Type 0} {s s' : Sweep} {r : ℕ} (a : MetIn P s s' r) where
+  pub meets_sizes : s'.tables.sizes ≡ s.tables.sizes
+  meets_sizes = ap (λ (t : TablesRef). t.sizes) a.tables
+
+  pub meets_same : {Q : Pair → Type 0} → ((p : Pair) → In s.tables.sizes p → P p → Q p) → ((p : Pair) → In s.tables.sizes p → Q p → P p) → MetIn Q s s' r
+  meets_same to back = record { tables = a.tables; k = a.k; place = a.place; met = met_same a.met to back }
+
+  pub meets_few : r ≤ 16384
+  meets_few = omega (arith, met_few a.met, few_pairs s.writable.few)
+
+  pub meets_both_few : {Q : Pair → Type 0} {s'' : Sweep} {t : ℕ} → MetIn Q s' s'' t → r + t ≤ 32768
+  meets_both_few b = omega (arith, meets_few, met_few (rw (meets_sizes, a.k) at b.met), few_pairs s.writable.few)
+
+  pub meets_then : {Q R : Pair → Type 0} {s'' : Sweep} {t : ℕ} → MetIn Q s' s'' t → ((p : Pair) → In s.tables.sizes p → P p → R p) → ((p : Pair) → In s.tables.sizes p → Q p → R p) → ((p : Pair) → In s.tables.sizes p → R p → P p ⊎ Q p) → MetIn R s s'' (r + t)
+  meets_then b one two split = record { tables = b.tables ∙ a.tables; k = b.k ∙ a.k; place = b.place ∙ a.place; met = met_then a.met (rw (meets_sizes, a.k) at b.met) one two split }

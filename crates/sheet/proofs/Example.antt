@@ -27,7 +27,7 @@ use Rattle.machine.specs.Meaning.Verdict as W
 use Rattle.machine.proofs.Allowed.{ones_right}
 use Rattle.machine.proofs.Verdict.{written_unique}
 use Rattle.verdict.specs.Meaning.Decision.{Decided}
-use Rattle.verdict.specs.Meaning.Decision as D
+use Rattle.verdict.specs.declared.Verdict.{Verdict}
 use Rattle.compare.specs.Meaning.Designs.{machine_of, sizes_of, all_vectors}
 use Rattle.compare.specs.Meaning.Comparing.{CompareFault}
 use Rattle.compare.specs.Meaning.Demand.{Enough}
@@ -108,7 +108,7 @@ all_zero n j = go (dec_lt j n)
     go (yes h) = get_or-replicate {A = ℕ} n j 0 0 h
     go (no h) = get_or-eq_default (zeros n) 0 (omega (arith, length-replicate {A = ℕ} n 0))
 
-decided : Decided (machine_of a []) (machine_of b []) (Ok (sizes_of a b every)) (sizes_of a b every) list (D.same 1)
+decided : Decided (machine_of a []) (machine_of b []) (Ok (sizes_of a b every)) (sizes_of a b every) list (Verdict.Same 1)
 decided = record { sought = pq_same; fits = omega arith; beyond = beyond }
   where
     beyond : ZeroFrom 1 list

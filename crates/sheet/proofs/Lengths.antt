@@ -1,4 +1,5 @@
 -- The rounds and the longest trace are so.
+use Rattle.std.proofs.Common.{ℕ, Option, None}
 use Prim.Native.Nat.{ℕ, ◌<◌, ◌-◌}
 use mathlib.Core.Path.{◌≡◌, refl, sym, ap, ◌∙◌, subst}
 use mathlib.Core.List.{List, [], ◌∷◌, ◌++◌}
@@ -6,7 +7,6 @@ use native.Mathlib.Omega.{arith}
 use lib.Dec.{lit<}
 use lib.ListN.{length, length-append}
 use Rattle.machine.specs.declared.Pair.{Pair}
-use Rattle.machine.specs.declared.Prior.{Prior}
 use Rattle.machine.specs.Meaning.Lists.{Each, run, Leads}
 use Rattle.machine.specs.Meaning.Pick.{Shortest, IsPicked}
 use Rattle.machine.specs.Meaning.Machine.{Machine, step, Agrees, Alike, Shows, IsTrace, ListAfter}
@@ -32,7 +32,7 @@ module _ (s0 s1 : ℕ) where
     each_0 : (a : List ℕ) (v : ℕ) (b : List ℕ) → P (a ++ (v ∷ b)) → v ≡ 0
     each_0 a v b h = only v (each_back (Ok (sized s0 s1)) a (v ∷ b) (fits (a ++ (v ∷ b)) h)).0
 
-    shortest_picked : {s : Prior} {l : List ℕ} → Shortest P l → IsPicked s P l
+    shortest_picked : {s : Option ℕ} {l : List ℕ} → Shortest P l → IsPicked s P l
     shortest_picked short = record {
       shortest = short;
       each = λ a v b e.
@@ -53,7 +53,7 @@ not_up p h a = omega (arith, h, (a.agree [] tt 0 (fed 1 3)).out)
 abbrev Climbs : List ℕ → Type 0
 Climbs l = Leads (step shines climbs) (Ok (sized 1 3)) (Alike shines climbs (Ok (sized 1 3))) (both 0 0) l
 
-climb : ListAfter shines climbs (Ok (sized 1 3)) Prior.Start (both 0 0) (0 ∷ 0 ∷ [])
+climb : ListAfter shines climbs (Ok (sized 1 3)) None (both 0 0) (0 ∷ 0 ∷ [])
 climb = shortest_picked 1 3 (λ m w. w.allowed) (record { has = record { allowed = (fed 1 3, (fed 1 3, tt)); ends = up (both 0 2) refl }; none = none })
   where
     none : (m : List ℕ) → Climbs m → length m < 2 → ⊥

@@ -1,4 +1,5 @@
 -- The picks hold.
+use Rattle.std.proofs.Common.{Some, None}
 use Prim.Native.Nat.{ℕ, zero, suc, ◌<◌, ◌≤◌}
 use mathlib.Core.Path.{◌≡◌, refl, ap}
 use mathlib.Core.List.{List, [], ◌∷◌}
@@ -6,7 +7,6 @@ use native.Mathlib.Omega.{arith}
 use lib.Dec.{lit<}
 use lib.ListN.{length}
 use Rattle.machine.specs.declared.Pair.{Pair}
-use Rattle.machine.specs.declared.Prior.{Prior}
 use Rattle.machine.specs.Meaning.Lists.{Leads}
 use Rattle.machine.specs.Meaning.Pick.{Shortest, GoesOn, IsTaken}
 use Rattle.machine.specs.Meaning.Machine.{step, Alike, ListAfter, IsTrace, IsList}
@@ -57,7 +57,7 @@ module _ (p : Pair) (now : Alike merges merges (Ok fours) p → ⊥) (next : (v 
       go (x ∷ []) s = (x, s.has)
       go (x ∷ (y ∷ r)) s = absurd (omega (arith, shortest_same s (shortest_two h)))
 
-  list_two : {v w : ℕ} → Aligns p (v ∷ w ∷ []) → ((u x : ℕ) → Aligns p (u ∷ x ∷ []) → v ≤ u) → IsTaken (Prior.Vector v) (λ x. Aligns p (v ∷ x ∷ [])) w → IsList merges merges (Ok fours) p (v ∷ w ∷ [])
+  list_two : {v w : ℕ} → Aligns p (v ∷ w ∷ []) → ((u x : ℕ) → Aligns p (u ∷ x ∷ []) → v ≤ u) → IsTaken (Some v) (λ x. Aligns p (v ∷ x ∷ [])) w → IsList merges merges (Ok fours) p (v ∷ w ∷ [])
   list_two {v} {w} h low t = picked_cons (shortest_two h) (takes_start (λ u g. let x = goes_two h g in low u x.0 x.1)) (picked_one (next v) h t)
 
 kept_aligns : Aligns (both 0 2) (1 ∷ 1 ∷ [])
@@ -93,14 +93,14 @@ own : IsList merges merges (Ok fours) (both 2 3) (0 ∷ [])
 own = picked_one (λ w. unequal (both 2 3) (λ e. omega (arith, e)) w.ends) (aligns_one (both 2 3) 0 fed_0 refl) (takes_start (λ w q. omega arith))
 
 -- the two rounds
-round_1 : ListAfter merges merges (Ok fours) Prior.Start (both 0 1) (1 ∷ [])
+round_1 : ListAfter merges merges (Ok fours) None (both 0 1) (1 ∷ [])
 round_1 = picked_one (λ w. unequal (both 0 1) (λ e. omega (arith, e)) w.ends) (aligns_one (both 0 1) 1 fed_1 refl) (takes_start low)
   where
     low : (w : ℕ) → Aligns (both 0 1) (w ∷ []) → 1 ≤ w
     low zero q = absurd (unequal (both 2 1) (λ e. omega (arith, e)) q.ends)
     low (suc w) q = omega arith
 
-round_2 : ListAfter merges merges (Ok fours) (Prior.Vector 1) (both 2 3) (1 ∷ [])
+round_2 : ListAfter merges merges (Ok fours) (Some 1) (both 2 3) (1 ∷ [])
 round_2 = picked_one (λ w. unequal (both 2 3) (λ e. omega (arith, e)) w.ends) (aligns_one (both 2 3) 1 fed_1 refl) (takes_kept (aligns_one (both 2 3) 1 fed_1 refl))
 
 open_1 : LowestOpen merges merges (Ok fours) fours [] (both 0 1)

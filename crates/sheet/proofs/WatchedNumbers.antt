@@ -40,10 +40,10 @@ eight n (WatchFault.net k h l) = not_lt l (threes 8 k h)
 eight n (WatchFault.many h) = omega arith
 
 pub over : First (WatchFault (decoded image_p) (replicate 8 3 ++ (4 ∷ []))) 5
-over = (watch_5 (decoded image_p) (replicate 8 3 ++ (4 ∷ [])) [] 8 (lit< tt) (omega (arith, four))).first.some (λ e. omega arith)
+over = watch_5 (decoded image_p) (replicate 8 3 ++ (4 ∷ [])) 8 (lit< tt) (omega (arith, four))
 
 pub many : First (WatchFault (decoded image_p) (replicate 9 3)) 21
-many = (watch_21 (decoded image_p) (replicate 9 3) (λ k h. threes 9 k h) [] (lit< tt)).first.some (λ e. omega arith)
+many = watch_21 (decoded image_p) (replicate 9 3) (λ k h. threes 9 k h) (lit< tt)
 
 pub six : nets_of (decoded image_q) ≡ 6
 unfolding decoded field_at horner bit_at list_of

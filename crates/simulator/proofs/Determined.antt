@@ -1,6 +1,6 @@
 -- No two answers, or slices left, meet one promise.
 use Prim.Native.Nat.{ℕ, ◌+◌, ◌*◌, ◌/◌, ◌%◌, ◌<◌}
-use mathlib.Core.Path.{◌≡◌, refl, sym, ◌∙◌, ap, ap₂, subst}
+use mathlib.Core.Path.{◌≡◌, sym, ◌∙◌, ap₂, subst}
 use mathlib.Core.List.{List}
 use native.Mathlib.Omega.{arith}
 use native.Mathlib.Nat.{mod-lt, div-add-mod', div-lt_iff_lt-mul}
@@ -8,38 +8,28 @@ use native.Mathlib.Decide.{dec_lt}
 use lib.Pow.{pow_pos}
 use lib.ListN.{length, get_or}
 use lib.Seq.{ext_get_or}
-use Rattle.memory.specs.Meaning.Refusals.{Reply, answer, refusal}
+use Rattle.std.specs.Prelude.{Result}
+use Rattle.memory.specs.declared.Refusal.{Refusal}
+use Rattle.memory.specs.Meaning.Refusals.{reply_of}
+use Rattle.memory.proofs.Checked.{reply_injective}
 use Rattle.memory.proofs.Refusals.{reply_unique, keeps_unique}
 use Rattle.memory.proofs.Slices.{zero_unique}
 use Rattle.netlist.specs.declared.Design.{Design}
 use Rattle.netlist.specs.Meaning.Nets.{states_of, vectors_of, next_state, outputs}
 use Rattle.netlist.specs.Meaning.Watched.{watched}
 use Rattle.memory.specs.Meaning.Tables.{Table, Lengths, lengths_of, shortest_of, ZeroTable}
-use Rattle.simulator.specs.declared.Clocked.{Clocked}
-use Rattle.simulator.specs.declared.Tabulated.{Tabulated}
-use Rattle.simulator.specs.declared.TabulatedBoth.{TabulatedBoth}
-use Rattle.simulator.specs.Meaning.Clock.{StepValues, clock_reply, ClockFault, IsStep, Clocks}
-use Rattle.simulator.specs.Meaning.Tables.{size_of, HoldsEach, HoldsDesign, TableSizes, BothSizes, table_reply, both_reply, TableFault, BothFault, IsTable, AreTables, Tabulates, TabulatesBoth}
-
--- what can be undone gives different results of different things
-injective : {A B : Type 0} (f : A → B) (g : B → A) → ((a : A) → g (f a) ≡ a) → {a b : A} → f a ≡ f b → a ≡ b
-injective f g back {a} {b} e = sym (back a) ∙ ap g e ∙ back b
+use Rattle.evaluator.specs.declared.Stepped.{Stepped}
+use Rattle.simulator.specs.declared.TableSizes.{TableSizes}
+use Rattle.simulator.specs.declared.BothSizes.{BothSizes}
+use Rattle.simulator.specs.Meaning.Clock.{ClockFault, IsStep, Clocks}
+use Rattle.simulator.specs.Meaning.Tables.{size_of, HoldsEach, HoldsDesign, TableFault, BothFault, IsTable, AreTables, Tabulates, TabulatesBoth}
 
 -- a clock
-clocked : Reply StepValues → Clocked
-clocked (answer a) = Clocked.Step a.next a.out
-clocked (refusal n) = Clocked.Refused n
-
-clocked_back : (r : Clocked) → clocked (clock_reply r) ≡ r
-unfolding clocked
-clocked_back (Clocked.Step a b) = refl
-clocked_back (Clocked.Refused n) = refl
-
-pub clock_unique : (d : Design) (s v : ℕ) (r t : Clocked) → Clocks d s v r → Clocks d s v t → r ≡ t
+pub clock_unique : (d : Design) (s v : ℕ) (r t : Result Stepped Refusal) → Clocks d s v r → Clocks d s v t → r ≡ t
 clock_unique d s v r t p q =
-    injective clock_reply clocked clocked_back (reply_unique (ClockFault d s v) (IsStep d s v) (Unit {0}) one (clock_reply r) (clock_reply t) p.keeps q.keeps)
+    reply_injective r t (reply_unique (ClockFault d s v) (IsStep d s v) (Unit {0}) one (reply_of r) (reply_of t) p.keeps q.keeps)
   where
-    one : (a b : StepValues) → IsStep d s v a → IsStep d s v b → a ≡ b
+    one : (a b : Stepped) → IsStep d s v a → IsStep d s v b → a ≡ b
     one a b x y = ap₂ (λ (n o : ℕ). record { next = n; out = o }) (x.next ∙ sym y.next) (x.out ∙ sym y.out)
 
 -- a table that holds every clock is fixed below its size, and zero beyond
@@ -73,38 +63,20 @@ module _ (n : Lengths) (t u : Table) (p : lengths_of t ≡ n) (q : lengths_of u 
       let c = zero_unique t.seen u.seen (λ j. (long j).seen) x.seen y.seen in
       λ j. record { next = a j; out = b j; seen = c j }
 
-tabulated : Reply TableSizes → Tabulated
-tabulated (answer a) = Tabulated.Table a.states a.vectors
-tabulated (refusal n) = Tabulated.Refused n
-
-tabulated_back : (r : Tabulated) → tabulated (table_reply r) ≡ r
-unfolding tabulated
-tabulated_back (Tabulated.Table a b) = refl
-tabulated_back (Tabulated.Refused n) = refl
-
-pub table_unique : (d : Design) (w : List ℕ) (n : Lengths) (r q : Tabulated) (t u : Table) → Tabulates d w n r t → Tabulates d w n q u → (r ≡ q) × (t ≡ u)
+pub table_unique : (d : Design) (w : List ℕ) (n : Lengths) (r q : Result TableSizes Refusal) (t u : Table) → Tabulates d w n r t → Tabulates d w n q u → (r ≡ q) × (t ≡ u)
 table_unique d w n r q t u g h =
-    let both = keeps_unique (TableFault d w (shortest_of n)) (IsTable d w) ZeroTable t u one (cleared_unique n t u g.room h.room) (table_reply r) (table_reply q) g.keeps h.keeps in
-    (injective table_reply tabulated tabulated_back both.0, both.1)
+    let both = keeps_unique (TableFault d w (shortest_of n)) (IsTable d w) ZeroTable t u one (cleared_unique n t u g.room h.room) (reply_of r) (reply_of q) g.keeps h.keeps in
+    (reply_injective r q both.0, both.1)
   where
     one : (a b : TableSizes) → IsTable d w t a → IsTable d w u b → (a ≡ b) × (t ≡ u)
     one a b x y =
         (ap₂ (λ (u w : ℕ). record { states = u; vectors = w }) (x.states ∙ sym y.states) (x.vectors ∙ sym y.vectors), holds_unique n t u g.room h.room d w x.holds y.holds)
 
-tabulated_both : Reply BothSizes → TabulatedBoth
-tabulated_both (answer a) = TabulatedBoth.Both a.old a.new a.vectors
-tabulated_both (refusal n) = TabulatedBoth.Refused n
-
-both_back : (r : TabulatedBoth) → tabulated_both (both_reply r) ≡ r
-unfolding tabulated_both
-both_back (TabulatedBoth.Both a b c) = refl
-both_back (TabulatedBoth.Refused n) = refl
-
-pub both_unique : (a b : Design) (w0 w1 : List ℕ) (n0 n1 : Lengths) (r q : TabulatedBoth) (t0 t1 u0 u1 : Table)
+pub both_unique : (a b : Design) (w0 w1 : List ℕ) (n0 n1 : Lengths) (r q : Result BothSizes Refusal) (t0 t1 u0 u1 : Table)
     → TabulatesBoth a b w0 w1 n0 n1 r t0 t1 → TabulatesBoth a b w0 w1 n0 n1 q u0 u1 → (r ≡ q) × ((t0 ≡ u0) × (t1 ≡ u1))
 both_unique a b w0 w1 n0 n1 r q t0 t1 u0 u1 g h =
-    let both = keeps_unique (BothFault a b w0 w1 (shortest_of n0) (shortest_of n1)) (λ (x : Table × Table). AreTables a b w0 w1 x.0 x.1) (λ (x : Table × Table). ZeroTable x.0 × ZeroTable x.1) (t0, t1) (u0, u1) one clear (both_reply r) (both_reply q) g.keeps h.keeps in
-    (injective both_reply tabulated_both both_back both.0, (λ j. (both.1 j).0, λ j. (both.1 j).1))
+    let both = keeps_unique (BothFault a b w0 w1 (shortest_of n0) (shortest_of n1)) (λ (x : Table × Table). AreTables a b w0 w1 x.0 x.1) (λ (x : Table × Table). ZeroTable x.0 × ZeroTable x.1) (t0, t1) (u0, u1) one clear (reply_of r) (reply_of q) g.keeps h.keeps in
+    (reply_injective r q both.0, (λ j. (both.1 j).0, λ j. (both.1 j).1))
   where
     one : (x y : BothSizes) → AreTables a b w0 w1 t0 t1 x → AreTables a b w0 w1 u0 u1 y → (x ≡ y) × (◌≡◌ {A = Table × Table} (t0, t1) (u0, u1))
     one x y c d =

@@ -3,24 +3,26 @@ use Prim.Native.Nat.{ℕ, ◌<◌, ◌≤◌}
 use mathlib.Core.Path.{◌≡◌, refl}
 use mathlib.Core.Logic.{◌⊎◌, inl, inr}
 use mathlib.Core.List.{List, []}
+use Rattle.std.specs.Prelude.{Result}
 use native.Mathlib.Omega.{arith}
 use lib.ListN.{length}
 use Rattle.numbers.proofs.Order.{le_of_not_lt}
 use Rattle.memory.specs.Meaning.Orders.{table_order}
-use Rattle.memory.specs.Meaning.Refusals.{Free, First, FirstOrNone, earlier_number}
+use Rattle.memory.specs.declared.Refusal.{Refusal}
+use Rattle.memory.specs.Meaning.Refusals.{Free, First, FirstOrNone, Checked, BothOf, earlier_number}
 use Rattle.memory.specs.Working.Lowest.{Numbered, UpTo16, place_in}
-use Rattle.memory.proofs.Refusals.{some_number, no_number, first_early, first_late, first_either, first_then}
+use Rattle.memory.proofs.Refusals.{some_number, first_early, first_late, first_either, first_then}
 use Rattle.memory.proofs.Table.{up_to_16, listed_stands}
+use Rattle.memory.proofs.Checked.{both_checked}
 use Rattle.memory.proofs.Places.{place_low, place_10, place_21, place_high, first_of_place}
 use Rattle.netlist.specs.declared.Design.{Design}
-use Rattle.netlist.specs.Meaning.Nets.{states_of, vectors_of}
 use Rattle.netlist.specs.Meaning.Faults.{DesignFault, Accepted}
 use Rattle.netlist.specs.Meaning.Watched.{WatchFault}
 use Rattle.netlist.proofs.Numbers.{fault_bounds, design_among}
 use Rattle.netlist.proofs.Watched.{nothing_wrong}
 use Rattle.simulator.specs.Meaning.Clock.{ClockFault}
 use Rattle.simulator.specs.Meaning.Tables.{size_of, TableFault, InterfaceFault, BothFault}
-use Rattle.simulator.specs.Working.Filling.{DrawnFault, PairNumber}
+use Rattle.simulator.specs.Working.Filling.{DrawnFault}
 
 -- a clock: 3, 5 and 9 of the design, then 14
 module _ (d : Design) (s v : ℕ) where
@@ -43,11 +45,6 @@ module _ (d : Design) (s v : ℕ) where
   pub clock_14 : Accepted d → ClockFault d s v 14 → First (ClockFault d s v) 14
   clock_14 = first_late (DesignFault d) (ClockFault d s v) 14 clock_numbered (λ n f. ClockFault.design f) before_14
 
-  pub clock_free : Accepted d → s < states_of d → v < vectors_of d → Free (ClockFault d s v)
-  clock_free none p q n (ClockFault.design f) = none n f
-  clock_free none p q n (ClockFault.state l) = omega arith
-  clock_free none p q n (ClockFault.vector l) = omega arith
-
 place_12 : place_in table_order 12 ≡ 13
 place_12 = omega (arith, place_high 12 (omega arith) (omega arith))
 
@@ -59,6 +56,9 @@ module _ (d : Design) (w : List ℕ) where
 
   pub drawn_first : {x y r : ℕ} → FirstOrNone (DesignFault d) x → FirstOrNone (WatchFault d w) y → r ≡ earlier_number x y → FirstOrNone (DrawnFault d w) r
   drawn_first {x} {y} p q e = rw e (first_either (DesignFault d) (WatchFault d w) (DrawnFault d w) (λ k f. DrawnFault.design f) (λ k f. DrawnFault.watch f) cases x y p q)
+
+  pub drawn_checked : {A B : Type 0} (x : Result A Refusal) (y : Result B Refusal) (r : Result (A × B) Refusal) → BothOf x y r → Checked (DesignFault d) x → Checked (WatchFault d w) y → Checked (DrawnFault d w) r
+  drawn_checked = both_checked (DesignFault d) (WatchFault d w) (DrawnFault d w) (λ k f. DrawnFault.design f) (λ k f. DrawnFault.watch f) cases
 
   drawn_place : {k : ℕ} → DrawnFault d w k → place_in table_order k ≤ 11
   drawn_place {k} (DrawnFault.design f) = omega (arith, (fault_bounds f).0, (fault_bounds f).1, place_low k (omega (arith, (fault_bounds f).0)) (omega (arith, (fault_bounds f).1)))
@@ -103,24 +103,14 @@ module _ (d : Design) (w : List ℕ) (room : ℕ) where
           go (inl x) = absurd (none m x)
           go (inr e) = rw e (omega arith)
 
-  pub table_free : Free (DrawnFault d w) → size_of d ≤ room → FirstOrNone (TableFault d w room) 0
-  table_free none p = no_number free
-    where
-      free : Free (TableFault d w room)
-      free k (TableFault.design f) = none k (DrawnFault.design f)
-      free k (TableFault.watch f) = none k (DrawnFault.watch f)
-      free k (TableFault.short l) = omega arith
+  pub table_free : Free (DrawnFault d w) → size_of d ≤ room → Free (TableFault d w room)
+  table_free none p k (TableFault.design f) = none k (DrawnFault.design f)
+  table_free none p k (TableFault.watch f) = none k (DrawnFault.watch f)
+  table_free none p k (TableFault.short l) = omega arith
 
-  -- where no number applies, the design and its watched nets are accepted and the slices are long enough
-  module _ (none : Free (TableFault d w room)) where
-    pub table_accepted : Accepted d
-    table_accepted k f = none k (TableFault.design f)
-
-    pub table_watch : Free (WatchFault d w)
-    table_watch k f = none k (TableFault.watch f)
-
-    pub table_long : size_of d ≤ room
-    table_long = le_of_not_lt (λ l. none 12 (TableFault.short l))
+  -- where no number applies the slices are long enough
+  pub table_long : Free (TableFault d w room) → size_of d ≤ room
+  table_long none = le_of_not_lt (λ l. none 12 (TableFault.short l))
 
 -- a pair of designs: 10, then 21
 module _ (a b : Design) (w0 w1 : List ℕ) where
@@ -140,14 +130,6 @@ module _ (a b : Design) (w0 w1 : List ℕ) where
         least m (InterfaceFault.other_inputs g) = absurd (g i)
         least m (InterfaceFault.other_outputs g) = absurd (g o)
         least m (InterfaceFault.other_watched g) = omega arith
-
-    pub interface_free : length w0 ≡ length w1 → FirstOrNone (InterfaceFault a b w0 w1) 0
-    interface_free e = no_number free
-      where
-        free : Free (InterfaceFault a b w0 w1)
-        free k (InterfaceFault.other_inputs g) = g i
-        free k (InterfaceFault.other_outputs g) = g o
-        free k (InterfaceFault.other_watched g) = g e
 
 -- both: the first over all of these
 module _ (a b : Design) (w0 w1 : List ℕ) (room0 room1 : ℕ) where
@@ -169,24 +151,17 @@ module _ (a b : Design) (w0 w1 : List ℕ) (room0 room1 : ℕ) where
   of_both k (BothFault.new f) = inl (EitherFault.new f)
   of_both k (BothFault.interface f) = inr f
 
-  pub both_first : {x y r : ℕ} → FirstOrNone (TableFault a w0 room0) x → FirstOrNone (TableFault b w1 room1) y → PairNumber a b (length w0) (length w1) x y r
-      → FirstOrNone (BothFault a b w0 w1 room0 room1) r
-  both_first {x} {y} p q t =
-      let either = first_either (TableFault a w0 room0) (TableFault b w1 room1) EitherFault (λ k f. EitherFault.old f) (λ k f. EitherFault.new f) of_either x y p q in
-      rw t.is (first_either EitherFault (InterfaceFault a b w0 w1) (BothFault a b w0 w1 room0 room1) both_of (λ k f. BothFault.interface f) of_both (earlier_number x y) t.pair either (t.first w0 w1 refl refl))
+  pub both_first : {A B : Type 0} (x : Result A Refusal) (y : Result B Refusal) (e : Result (A × B) Refusal) (z : Result (Unit {0}) Refusal) (r : Result ((A × B) × Unit {0}) Refusal)
+      → BothOf x y e → BothOf e z r → Checked (TableFault a w0 room0) x → Checked (TableFault b w1 room1) y → Checked (InterfaceFault a b w0 w1) z → Checked (BothFault a b w0 w1 room0 room1) r
+  both_first x y e z r m n p q t =
+      let either : Checked EitherFault e = both_checked (TableFault a w0 room0) (TableFault b w1 room1) EitherFault (λ k f. EitherFault.old f) (λ k f. EitherFault.new f) of_either x y e m p q in
+      both_checked EitherFault (InterfaceFault a b w0 w1) (BothFault a b w0 w1 room0 room1) both_of (λ k f. BothFault.interface f) of_both e z r n either t
 
   -- none stands behind 12
   pub both_place : {k : ℕ} → BothFault a b w0 w1 room0 room1 k → place_in table_order k ≤ 13
   both_place (BothFault.old f) = table_place a w0 room0 f
   both_place (BothFault.new f) = table_place b w1 room1 f
   both_place (BothFault.interface f) = omega (arith, (interface_place a b w0 w1 f).1)
-
-  module _ (none : Free (BothFault a b w0 w1 room0 room1)) where
-    pub old_free : Free (TableFault a w0 room0)
-    old_free k f = none k (BothFault.old f)
-
-    pub new_free : Free (TableFault b w1 room1)
-    new_free k f = none k (BothFault.new f)
 
 -- where nothing is watched the numbers are among 1 to 16
 module _ (a b : Design) (room0 room1 : ℕ) where

@@ -14,6 +14,8 @@ use Rattle.memory.proofs.Filling.{filled_zero, filled_more}
 use Rattle.netlist.specs.declared.Design.{Design}
 use Rattle.netlist.specs.Meaning.Nets.{states_of, vectors_of, value, next_state, outputs}
 use Rattle.netlist.specs.Meaning.Watched.{watched_bit, watched}
+use Rattle.watched.specs.declared.Watch.{Watch}
+use Rattle.watched.specs.Working.Watching.{Watches}
 use Rattle.evaluator.specs.Working.Values.{watched_in}
 use Rattle.simulator.specs.Meaning.Tables.{size_of, HoldsEach, HoldsDesign}
 use Rattle.simulator.specs.Working.Filling.{next_entry, out_entry, seen_entry, FilledTables}
@@ -29,20 +31,20 @@ module _ (v : ℕ) (pos : 0 < v) where
   inside s x n h q = omega (arith, mul-le-mul_right v h, suc-mul s v)
 
 -- one entry more
-module _ (d : Design) (c : ℕ) (l : List ℕ) where
-  pub tables_none : (t : Table) → ZeroTable t → FilledTables d c l (lengths_of t) 0 t
+module _ (d : Design) (w : Watch) where
+  pub tables_none : (t : Table) → ZeroTable t → FilledTables d w (lengths_of t) 0 t
   tables_none t z = record {
     nexts = filled_zero (next_entry d) t.next z.next;
     outs = filled_zero (out_entry d) t.out z.out;
-    seens = filled_zero (seen_entry d c l) t.seen z.seen;
+    seens = filled_zero (seen_entry d w.count w.nets) t.seen z.seen;
   }
 
-  pub tables_more : (n : Lengths) (k : ℕ) (t : Table) (x y z : ℕ) → k < n.next → k < n.out → k < n.seen → x ≡ next_entry d k → y ≡ out_entry d k → z ≡ seen_entry d c l k
-      → FilledTables d c l n k t → FilledTables d c l n (k + 1) (table_of (set t.next k x) (set t.out k y) (set t.seen k z))
-  tables_more n k t x y z h q r e f g w = record {
-    nexts = filled_more (next_entry d) 0 n.next k t.next x h e w.nexts;
-    outs = filled_more (out_entry d) 0 n.out k t.out y q f w.outs;
-    seens = filled_more (seen_entry d c l) 0 n.seen k t.seen z r g w.seens;
+  pub tables_more : (n : Lengths) (k : ℕ) (t : Table) (x y z : ℕ) → k < n.next → k < n.out → k < n.seen → x ≡ next_entry d k → y ≡ out_entry d k → z ≡ seen_entry d w.count w.nets k
+      → FilledTables d w n k t → FilledTables d w n (k + 1) (table_of (set t.next k x) (set t.out k y) (set t.seen k z))
+  tables_more n k t x y z h q r e f g p = record {
+    nexts = filled_more (next_entry d) 0 n.next k t.next x h e p.nexts;
+    outs = filled_more (out_entry d) 0 n.out k t.out y q f p.outs;
+    seens = filled_more (seen_entry d w.count w.nets) 0 n.seen k t.seen z r g p.seens;
   }
 
 -- all entries are every clock
@@ -60,10 +62,12 @@ holds_each d f g n l w same = record {
 watched_same : (d : Design) (w : List ℕ) (c : ℕ) (l : List ℕ) → c ≡ length w → ((k : ℕ) → get_or l k 0 ≡ get_or w k 0) → (s v : ℕ) → watched_in d c l s v ≡ watched d w s v
 watched_same d w c l e same s v = horner_cong _ _ c (λ k h. ap (value d s v) (same k)) ∙ ap (horner (watched_bit d w s v)) e
 
-pub holds_design : (d : Design) (w : List ℕ) (c : ℕ) (l : List ℕ) (n : Lengths) (t : Table) → c ≡ length w → ((k : ℕ) → get_or l k 0 ≡ get_or w k 0)
-    → FilledTables d c l n (size_of d) t → HoldsDesign d w t
-holds_design d w c l n t e same f = record {
+pub holds_design : (d : Design) (w : List ℕ) (x : Watch) (n : Lengths) (t : Table) → Watches w x → FilledTables d x n (size_of d) t → HoldsDesign d w t
+holds_design d w x n t b f = record {
   next = holds_each d (next_state d) (next_state d) n.next t.next f.nexts (λ s v. refl);
   out = holds_each d (outputs d) (outputs d) n.out t.out f.outs (λ s v. refl);
-  seen = holds_each d (watched_in d c l) (watched d w) n.seen t.seen f.seens (watched_same d w c l e same);
+  seen = holds_each d (watched_in d x.count x.nets) (watched d w) n.seen t.seen f.seens (watched_same d w x.count x.nets b.count b.same);
 }
+
+-- what the body of `fill` stands on
+pub ruleset fill_is = (tables_none, pow_pos)

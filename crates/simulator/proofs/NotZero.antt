@@ -6,9 +6,12 @@ use Rattle.netlist.specs.declared.Design.{Design}
 use Rattle.netlist.specs.Meaning.Watched.{WatchFault}
 use Rattle.netlist.proofs.Numbers.{fault_bounds}
 use Rattle.memory.specs.Meaning.Tables.{Table, Lengths}
-use Rattle.simulator.specs.declared.Clocked.{Clocked}
-use Rattle.simulator.specs.declared.Tabulated.{Tabulated}
-use Rattle.simulator.specs.declared.TabulatedBoth.{TabulatedBoth}
+use Rattle.std.specs.Prelude.{Result, ◌≡◌}
+use Rattle.memory.specs.declared.Refusal.{Refusal}
+use Rattle.memory.specs.Meaning.Refusals.{Reply, answer, refusal, reply_of, Keeps}
+use Rattle.evaluator.specs.declared.Stepped.{Stepped}
+use Rattle.simulator.specs.declared.TableSizes.{TableSizes}
+use Rattle.simulator.specs.declared.BothSizes.{BothSizes}
 use Rattle.simulator.specs.Meaning.Clock.{ClockFault, Clocks}
 use Rattle.simulator.specs.Meaning.Tables.{TableFault, InterfaceFault, BothFault, Tabulates, TabulatesBoth}
 
@@ -33,11 +36,15 @@ both_some (BothFault.old f) = table_some f
 both_some (BothFault.new f) = table_some f
 both_some (BothFault.interface f) = interface_some f
 
-pub clock_not_zero : {d : Design} {s v : ℕ} → Clocks d s v (Clocked.Refused 0) → ⊥
-clock_not_zero p = omega (arith, clock_some p.keeps.0.applies)
+not_zero : {A : Type 0} (P : ℕ → Type 0) (Answers : A → Type 0) (Cleared : Type 0) → ((n : ℕ) → P n → 3 ≤ n) → (r : Reply A) → Keeps P Answers Cleared r → r ≡ refusal 0 → ⊥
+not_zero P Answers Cleared some (answer a) k e = cc
+not_zero P Answers Cleared some (refusal n) k e = let z : n ≡ 0 = cc in omega (arith, some n k.0.applies)
 
-pub table_not_zero : {d : Design} {w : List ℕ} {n : Lengths} {t : Table} → Tabulates d w n (Tabulated.Refused 0) t → ⊥
-table_not_zero p = omega (arith, table_some p.keeps.0.applies)
+pub clock_not_zero : {d : Design} {s v : ℕ} {r : Result Stepped Refusal} → Clocks d s v r → reply_of r ≡ refusal 0 → ⊥
+clock_not_zero {r = r} p = not_zero _ _ _ (λ n. clock_some) (reply_of r) p.keeps
 
-pub both_not_zero : {a b : Design} {w0 w1 : List ℕ} {n0 n1 : Lengths} {t0 t1 : Table} → TabulatesBoth a b w0 w1 n0 n1 (TabulatedBoth.Refused 0) t0 t1 → ⊥
-both_not_zero p = omega (arith, both_some p.keeps.0.applies)
+pub table_not_zero : {d : Design} {w : List ℕ} {n : Lengths} {r : Result TableSizes Refusal} {t : Table} → Tabulates d w n r t → reply_of r ≡ refusal 0 → ⊥
+table_not_zero {r = r} p = not_zero _ _ _ (λ n. table_some) (reply_of r) p.keeps
+
+pub both_not_zero : {a b : Design} {w0 w1 : List ℕ} {n0 n1 : Lengths} {r : Result BothSizes Refusal} {t0 t1 : Table} → TabulatesBoth a b w0 w1 n0 n1 r t0 t1 → reply_of r ≡ refusal 0 → ⊥
+both_not_zero {r = r} p = not_zero _ _ _ (λ n. both_some) (reply_of r) p.keeps

@@ -11,11 +11,14 @@ use Rattle.netlist.specs.Meaning.Faults.{SameDesign}
 use Rattle.netlist.proofs.Same.{same_sym, same_next, same_outputs, same_states, same_vectors, same_fault}
 use Rattle.netlist.proofs.Watched.{same_watched, same_watch}
 use Rattle.memory.specs.Meaning.Tables.{Table, Lengths, shortest_of}
-use Rattle.simulator.specs.declared.Clocked.{Clocked}
-use Rattle.simulator.specs.declared.Tabulated.{Tabulated}
-use Rattle.simulator.specs.declared.TabulatedBoth.{TabulatedBoth}
-use Rattle.simulator.specs.Meaning.Clock.{clock_reply, ClockFault, Clocks}
-use Rattle.simulator.specs.Meaning.Tables.{size_of, HoldsEach, HoldsDesign, table_reply, both_reply, TableFault, InterfaceFault, BothFault, Tabulates, TabulatesBoth}
+use Rattle.std.specs.Prelude.{Result}
+use Rattle.memory.specs.declared.Refusal.{Refusal}
+use Rattle.memory.specs.Meaning.Refusals.{reply_of}
+use Rattle.evaluator.specs.declared.Stepped.{Stepped}
+use Rattle.simulator.specs.declared.TableSizes.{TableSizes}
+use Rattle.simulator.specs.declared.BothSizes.{BothSizes}
+use Rattle.simulator.specs.Meaning.Clock.{ClockFault, Clocks}
+use Rattle.simulator.specs.Meaning.Tables.{size_of, HoldsEach, HoldsDesign, TableFault, InterfaceFault, BothFault, Tabulates, TabulatesBoth}
 
 module _ (d c : Design) (e : SameDesign d c) where
   same_size : size_of d ≡ size_of c
@@ -44,16 +47,16 @@ module _ (d c : Design) (e : SameDesign d c) where
     seen = same_each (watched d w) (watched c w) (same_watched d c e w) t.seen h.seen;
   }
 
-pub same_clock : (d c : Design) → SameDesign d c → (s v : ℕ) (r : Clocked) → Clocks d s v r → Clocks c s v r
+pub same_clock : (d c : Design) → SameDesign d c → (s v : ℕ) (r : Result Stepped Refusal) → Clocks d s v r → Clocks c s v r
 same_clock d c w s v r p = record {
   keeps = keeps_map (clock_fault d c w s v) (clock_fault c d (same_sym w) s v)
-      (λ a x. record { next = x.next ∙ same_next d c w s v; out = x.out ∙ same_outputs d c w s v }) (λ u. u) (clock_reply r) p.keeps;
+      (λ a x. record { next = x.next ∙ same_next d c w s v; out = x.out ∙ same_outputs d c w s v }) (λ u. u) (reply_of r) p.keeps;
 }
 
-pub same_tabulate : (d c : Design) → SameDesign d c → (w : List ℕ) (n : Lengths) (r : Tabulated) (t : Table) → Tabulates d w n r t → Tabulates c w n r t
+pub same_tabulate : (d c : Design) → SameDesign d c → (w : List ℕ) (n : Lengths) (r : Result TableSizes Refusal) (t : Table) → Tabulates d w n r t → Tabulates c w n r t
 same_tabulate d c e w n r t p = record {
   keeps = keeps_map (table_fault d c e w (shortest_of n)) (table_fault c d (same_sym e) w (shortest_of n))
-      (λ a x. record { states = x.states ∙ same_states d c e; vectors = x.vectors ∙ same_vectors d c e; holds = same_holds d c e w t x.holds }) (λ u. u) (table_reply r) p.keeps;
+      (λ a x. record { states = x.states ∙ same_states d c e; vectors = x.vectors ∙ same_vectors d c e; holds = same_holds d c e w t x.holds }) (λ u. u) (reply_of r) p.keeps;
   room = p.room;
 }
 
@@ -66,12 +69,12 @@ both_fault a b c e p q w0 w1 n0 n1 k (BothFault.interface (InterfaceFault.other_
     BothFault.interface (InterfaceFault.other_outputs (λ g. f (p.outputs ∙ g ∙ sym q.outputs)))
 both_fault a b c e p q w0 w1 n0 n1 k (BothFault.interface (InterfaceFault.other_watched f)) = BothFault.interface (InterfaceFault.other_watched f)
 
-pub same_both : (a b c e : Design) → SameDesign a c → SameDesign b e → (w0 w1 : List ℕ) (n0 n1 : Lengths) (r : TabulatedBoth) (t0 t1 : Table)
+pub same_both : (a b c e : Design) → SameDesign a c → SameDesign b e → (w0 w1 : List ℕ) (n0 n1 : Lengths) (r : Result BothSizes Refusal) (t0 t1 : Table)
     → TabulatesBoth a b w0 w1 n0 n1 r t0 t1 → TabulatesBoth c e w0 w1 n0 n1 r t0 t1
 same_both a b c e p q w0 w1 n0 n1 r t0 t1 t = record {
   keeps = keeps_map (both_fault a b c e p q w0 w1 (shortest_of n0) (shortest_of n1)) (both_fault c e a b (same_sym p) (same_sym q) w0 w1 (shortest_of n0) (shortest_of n1))
       (λ z x. record { old_states = x.old_states ∙ same_states a c p; new_states = x.new_states ∙ same_states b e q; vectors = x.vectors ∙ same_vectors a c p; old = same_holds a c p w0 t0 x.old; new = same_holds b e q w1 t1 x.new })
-      (λ u. u) (both_reply r) t.keeps;
+      (λ u. u) (reply_of r) t.keeps;
   old_room = t.old_room;
   new_room = t.new_room;
 }

@@ -1,2 +1,3 @@
 -- Definitions that only private contracts and proofs cite.
 pub mod Filling
+pub mod Preparing

@@ -3,76 +3,54 @@
 
 mod tables;
 
-ghost use Rattle.memory.specs.Meaning.Tables.{table_of, lengths_of};
+ghost use Rattle.memory.specs.Meaning.Tables.{held_in, lengths_of, SameTable};
 ghost use Rattle.simulator.specs.Meaning.Clock.{Clocks};
 ghost use Rattle.simulator.specs.Meaning.Tables.{Tabulates, TabulatesBoth};
 
+use evaluator::Stepped;
+use memory::{Refusal, TableMut};
 use netlist::Design;
 
-#[derive(Clone, Copy)]
-pub enum Clocked {
-    Step { next: u8, out: u8 },
-    Refused(u8),
-}
-
 // One clock of a design from a state under a vector.
-pub fn clock(d: Design, state: usize, vector: usize) -> Clocked
+pub fn clock(d: Design, state: usize, vector: usize) -> Result<Stepped, Refusal>
     ensures { Clocks d state vector result }
 {
     let plan = order::levelize(d);
-    if plan.number != 0 {
-        return Clocked::Refused(plan.number);
+    plan.answer?;
+    if evaluator::power(d.latches) <= state || evaluator::power(d.inputs) <= vector {
+        return Err(Refusal::StateOver);
     }
-    if evaluator::power(d.latches) <= state {
-        return Clocked::Refused(14);
-    }
-    if evaluator::power(d.inputs) <= vector {
-        return Clocked::Refused(14);
-    }
-    let s = evaluator::step(d, plan, state, vector);
-    Clocked::Step {
-        next: s.next,
-        out: s.out,
-    }
+    Ok(evaluator::step(d, plan, state, vector))
 }
 
+// How many states and how many vectors a table is for.
 #[derive(Clone, Copy)]
-pub enum Tabulated {
-    Table { states: usize, vectors: usize },
-    Refused(u8),
+pub struct TableSizes {
+    pub states: usize,
+    pub vectors: usize,
 }
 
 // Writes the next state, the output and the watched value of every clock of a design with watched nets beside it.
-pub fn tabulate(
-    d: Design,
-    watch: &[u16],
-    next: &mut [u8],
-    out: &mut [u8],
-    seen: &mut [u8],
-) -> Tabulated
-    ensures { Tabulates d watch.now (lengths_of (table_of next.old out.old seen.old)) result (table_of next.new out.new seen.new) }
+pub fn tabulate(d: Design, watch: &[u16], table: &mut TableMut<'_>) -> Result<TableSizes, Refusal>
+    ensures tabulates { Tabulates d watch.now (lengths_of (held_in table.old)) result (held_in table.new) }
+    ensures same_slices { SameTable table.old table.new }
 {
-    let room = memory::shorter(next.len(), memory::shorter(out.len(), seen.len()));
-    let prepared = tables::prepare(d, watch, room);
-    let number = prepared.number;
-    tables::write(d, prepared, number, next, out, seen);
-    if number != 0 {
-        return Tabulated::Refused(number);
-    }
-    Tabulated::Table {
+    let prepared = tables::prepare(d, watch, table.room());
+    table.clear();
+    let prepared = prepared?;
+    tables::fill(d, prepared, table);
+    Ok(TableSizes {
         states: evaluator::power(d.latches),
         vectors: evaluator::power(d.inputs),
-    }
+    })
 }
 
+// How many states each of two designs has, and how many vectors both have.
 #[derive(Clone, Copy)]
-pub enum TabulatedBoth {
-    Both {
-        old: usize,
-        new: usize,
-        vectors: usize,
-    },
-    Refused(u8),
+pub struct BothSizes {
+    pub old: usize,
+    pub new: usize,
+    pub vectors: usize,
 }
 
 // The same for two designs that are to be compared; the watched nets of the one answer to those of the other.
@@ -81,43 +59,27 @@ pub fn tabulate_both(
     new: Design,
     old_watch: &[u16],
     new_watch: &[u16],
-    old_next: &mut [u8],
-    old_out: &mut [u8],
-    old_seen: &mut [u8],
-    new_next: &mut [u8],
-    new_out: &mut [u8],
-    new_seen: &mut [u8],
-) -> TabulatedBoth
-    ensures { TabulatesBoth old new old_watch.now new_watch.now
-        (lengths_of (table_of old_next.old old_out.old old_seen.old)) (lengths_of (table_of new_next.old new_out.old new_seen.old)) result
-        (table_of old_next.new old_out.new old_seen.new) (table_of new_next.new new_out.new new_seen.new) }
+    old_table: &mut TableMut<'_>,
+    new_table: &mut TableMut<'_>,
+) -> Result<BothSizes, Refusal>
+    ensures tabulates_both { TabulatesBoth old new old_watch.now new_watch.now
+        (lengths_of (held_in old_table.old)) (lengths_of (held_in new_table.old)) result
+        (held_in old_table.new) (held_in new_table.new) }
+    ensures same_old { SameTable old_table.old old_table.new }
+    ensures same_new { SameTable new_table.old new_table.new }
 {
-    let old_room = memory::shorter(
-        old_next.len(),
-        memory::shorter(old_out.len(), old_seen.len()),
-    );
-    let new_room = memory::shorter(
-        new_next.len(),
-        memory::shorter(new_out.len(), new_seen.len()),
-    );
-    let old_prepared = tables::prepare(old, old_watch, old_room);
-    let new_prepared = tables::prepare(new, new_watch, new_room);
-    let number = tables::both_number(
-        old,
-        new,
-        old_watch.len(),
-        new_watch.len(),
-        old_prepared.number,
-        new_prepared.number,
-    );
-    tables::write(old, old_prepared, number, old_next, old_out, old_seen);
-    tables::write(new, new_prepared, number, new_next, new_out, new_seen);
-    if number != 0 {
-        return TabulatedBoth::Refused(number);
-    }
-    TabulatedBoth::Both {
+    let old_prepared = tables::prepare(old, old_watch, old_table.room());
+    let new_prepared = tables::prepare(new, new_watch, new_table.room());
+    let either = memory::both(old_prepared, new_prepared);
+    let prepared = memory::both(either, tables::interface(old, new, old_watch, new_watch));
+    old_table.clear();
+    new_table.clear();
+    let ((old_prepared, new_prepared), ()) = prepared?;
+    tables::fill(old, old_prepared, old_table);
+    tables::fill(new, new_prepared, new_table);
+    Ok(BothSizes {
         old: evaluator::power(old.latches),
         new: evaluator::power(new.latches),
         vectors: evaluator::power(old.inputs),
-    }
+    })
 }

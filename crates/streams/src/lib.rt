@@ -6,55 +6,57 @@ ghost use Rattle.std.specs.Prelude.{◌≤◌, ◌≡◌, length};
 ghost use Rattle.io.specs.Counts.{IsPrefixLen};
 ghost use Rattle.pieces.specs.Meaning.Pieces.{Printed};
 ghost use Rattle.streams.specs.Meaning.Input.{Within};
+ghost use Rattle.streams.specs.Meaning.Output.{stream_number};
 
 use std::io::Read;
 
-// What was read: so many bytes at the front of a room, which is full or the input ends there; or a read failed.
+// Where an answer goes: to standard output or standard error, by the number that the system knows each by.
 #[derive(Clone, Copy)]
-pub enum Input {
-    Read(usize),
-    Failed,
+pub enum Stream {
+    Stdout = 1,
+    Stderr = 2,
 }
 
-// How many bytes are to go out, and where: to standard output, 1, or standard error, 2.
+// How many bytes are to go out, and where.
 #[derive(Clone, Copy)]
 pub struct Output {
-    pub stream: u8,
+    pub stream: Stream,
     pub length: usize,
 }
 
-// Reads an input into a room, until the room is full or the input ends.
-pub fn read_input<R: Read>(input: &mut R, room: &mut [u8]) -> Input
+// Reads an input into a room, until the room is full or the input ends: how many bytes were read, or nothing where a read failed.
+pub fn read_input<R: Read>(input: &mut R, room: &mut [u8]) -> Option<usize>
     ensures { Within result room.new }
 {
     let mut done = 0;
+    // a `while`: each turn goes on by as many bytes as a read gave
     while done < room.len() {
-        let Ok(more) = input.read(&mut room[done..]) else {
-            return Input::Failed;
-        };
+        let more = input.read(&mut room[done..]).ok()?;
         if more == 0 {
             break;
         }
         done += more;
     }
-    Input::Read(done)
+    Some(done)
 }
 
 // Puts the words that nothing could be read into a text; they go to standard error.
 pub fn put_unread(words: &[u8], text: &mut [u8]) -> Output
     requires { length words.now ≤ length text.old }
-    ensures { (result.stream ≡ 2) × (Printed words.now text.new result.length) }
+    ensures { (stream_number result.stream ≡ 2) × (Printed words.now text.new result.length) }
 {
-    let length = pieces::put_word(words, text, 0);
-    Output { stream: 2, length }
+    let length = pieces::put_message(words, text);
+    Output {
+        stream: Stream::Stderr,
+        length,
+    }
 }
 
 // Writes the front of a text to its stream, or says in words on standard error that it could not be written.
 pub fn write_output(sent: Output, text: &[u8], words: &[u8])
     requires { IsPrefixLen sent.length text.now }
 {
-    let length = sent.length;
-    if !io::write_all(sent.stream as i32, &text[..length]) {
-        io::write_all(2, words);
+    if !io::write_all(sent.stream as i32, &text[..sent.length]) {
+        io::write_all(Stream::Stderr as i32, words);
     }
 }

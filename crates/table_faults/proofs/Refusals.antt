@@ -1,23 +1,32 @@
--- The lowest of 11, 12 and 13 that applies, and 20 behind them.
-use Prim.Native.Nat.{ℕ, ◌<◌, ◌≤◌}
+-- What the tests of a call say, the lowest of 11, 12 and 13 that applies, and 20 behind them.
+use Prim.Native.Nat.{ℕ, ◌<◌, ◌≤◌, ◌*◌, ◌/◌, ◌^◌}
 use mathlib.Core.Path.{◌≡◌, refl}
 use mathlib.Core.Logic.{◌⊎◌, inl, inr}
 use mathlib.Core.List.{List}
+use mathlib.Core.Bool.{Bool, true, false, not}
 use native.Mathlib.Omega.{arith}
 use native.Mathlib.Decide.{ℕ_discrete}
+use lib.ListN.{length, take}
+use lib.Dec.{eqb}
+use borrow.Author.Tests.{eqb-true, eqb-false, not-true, not-false}
+use Rattle.std.proofs.Common.{get_or-take, length-take-le}
+use Rattle.std.specs.Bool.{MatchBool}
+use Rattle.std.specs.List.{HoldsAt, AllWithin}
 use Rattle.numbers.proofs.Order.{not_lt}
 use Rattle.memory.specs.Meaning.Orders.{table_order}
-use Rattle.memory.specs.Meaning.Refusals.{Free, FirstOrNone}
+use Rattle.memory.specs.Meaning.Refusals.{Free, First}
 use Rattle.memory.specs.Working.Lowest.{Numbered, UpTo16, place_in}
 use Rattle.memory.proofs.Places.{place_high, place_20, first_of_place}
-use Rattle.memory.proofs.Refusals.{some_number, lowest_number, no_number, first_then}
-use Rattle.memory.proofs.Table.{listed_stands, up_to_16}
+use Rattle.memory.proofs.Refusals.{first_then}
+use Rattle.memory.proofs.Table.{listed_stands, up_to_16, first_of_lowest}
+use Rattle.memory.specs.Working.Tests.{Tells, Splits}
+use Rattle.memory.proofs.Tests.{tells_of}
 use Rattle.machine.specs.declared.Sizes.{Sizes}
 use Rattle.machine.specs.Meaning.Tables.{Tables}
 use Rattle.machine.specs.Meaning.Allowed.{every_vector, WrongAllowed}
 use Rattle.machine.specs.Meaning.Faults.{OutOfRange, TooShort, LeadsOut, leads, TablesFault, VectorsFault}
-use Rattle.machine.proofs.Allowed.{ones_right}
-use Rattle.table_faults.specs.Working.{Measured, InRange, LongEnough, Stays}
+use Rattle.machine.proofs.Allowed.{ones_right, wrong_beyond, right_within}
+use Rattle.table_faults.specs.Working.{InRange, LongEnough, Stays}
 
 range_no : {z : Sizes} → InRange z → OutOfRange z → ⊥
 range_no r (OutOfRange.old_none e) = omega (arith, r.some_old)
@@ -27,20 +36,28 @@ range_no r (OutOfRange.new_many h) = omega (arith, r.few_new)
 range_no r (OutOfRange.vectors_none e) = omega (arith, r.some_vectors)
 range_no r (OutOfRange.vectors_many h) = omega (arith, r.few_vectors)
 
--- no table is too short, and no slice of one entry a pair
-pub record Long (t : Tables) (room : ℕ) : Type 0 where
-  pub none : TooShort t room → ⊥
-
-pub long : {t : Tables} {k0 k1 room : ℕ} → LongEnough t.sizes t.old.next t.new.next k0 k1 room → Measured k0 k1 t → Long t room
-long {t} {k0} {k1} {room} r m = record { none = go }
-  where
-    go : TooShort t room → ⊥
-    go (TooShort.old h) = not_lt r.old (rw m.old at h)
-    go (TooShort.new h) = not_lt r.new (rw m.new at h)
-    go (TooShort.lent h) = not_lt r.lent h
+long_no : {t : Tables} {room : ℕ} → LongEnough t room → TooShort t room → ⊥
+long_no r (TooShort.old h) = not_lt r.old h
+long_no r (TooShort.new h) = not_lt r.new h
+long_no r (TooShort.lent h) = not_lt r.lent h
 
 stays_no : {s v : ℕ} {n : List ℕ} → Stays s v n → LeadsOut s v n → ⊥
 stays_no r (leads i h l) = not_lt l (r.stays i h)
+
+-- what a search of the entries in use says of the table
+pub splits_entries : (s v : ℕ) (next : List ℕ) → s * v ≤ length next → (r : Bool)
+    → MatchBool r ((i : ℕ) × (i < length (take (s * v) next)) × HoldsAt (λ x. s ≤ x) (take (s * v) next) i) (AllWithin (λ x. x < s) (take (s * v) next) 0 (length (take (s * v) next)))
+    → Splits r (LeadsOut s v next) (Stays s v next)
+splits_entries s v next h true m =
+    let i : m.0 < s * v = omega (arith, length-take-le (s * v) next h) in
+    leads m.0 i (rw get_or-take at (m.2 0))
+splits_entries s v next h false m = record { stays = λ i k. rw get_or-take at (m i 0 (omega arith) (omega (arith, length-take-le (s * v) next h))) }
+
+-- a number that is not 0 is wrong where a bit is set beyond the vectors
+pub tells_beyond : (z : Sizes) → (z.allowed ≡ 0 → ⊥) → Tells (not (eqb (z.allowed / 2 ^ z.vectors) 0)) (WrongAllowed z)
+tells_beyond z s =
+    let x = z.allowed / 2 ^ z.vectors in
+    tells_of (not (eqb x 0)) (λ e. wrong_beyond (eqb-false x 0 (not-true (eqb x 0) e))) (λ e. right_within s (eqb-true x 0 (not-false (eqb x 0) e)))
 
 module _ {t : Tables} {room : ℕ} where
   fault_some : {m : ℕ} → TablesFault t room m → 11 ≤ m
@@ -67,31 +84,31 @@ module _ {t : Tables} {room : ℕ} where
   past_11 r (TablesFault.old_leads o) = omega arith
   past_11 r (TablesFault.new_leads o) = omega arith
 
-  past_12 : InRange t.sizes → Long t room → {m : ℕ} → TablesFault t room m → 13 ≤ m
+  past_12 : InRange t.sizes → LongEnough t room → {m : ℕ} → TablesFault t room m → 13 ≤ m
   past_12 r l (TablesFault.range o) = absurd (range_no r o)
-  past_12 r l (TablesFault.short o) = absurd (l.none o)
+  past_12 r l (TablesFault.short o) = absurd (long_no l o)
   past_12 r l (TablesFault.old_leads o) = omega arith
   past_12 r l (TablesFault.new_leads o) = omega arith
 
   -- n applies, and what applies is at least n
-  lowest : {n : ℕ} → TablesFault t room n → ((m : ℕ) → TablesFault t room m → n ≤ m) → FirstOrNone (TablesFault t room) n
-  lowest f past = lowest_number tables_numbered (record { applies = f; lower = λ m h g. not_lt (past m g) h })
+  lowest : {n : ℕ} → TablesFault t room n → ((m : ℕ) → TablesFault t room m → n ≤ m) → First (TablesFault t room) n
+  lowest f past = first_of_lowest tables_numbered (record { applies = f; lower = λ m h g. not_lt (past m g) h })
 
-  pub at_11 : OutOfRange t.sizes → FirstOrNone (TablesFault t room) 11
+  pub at_11 : OutOfRange t.sizes → First (TablesFault t room) 11
   at_11 o = lowest (TablesFault.range o) (λ m f. fault_some f)
 
-  pub at_12 : InRange t.sizes → TooShort t room → FirstOrNone (TablesFault t room) 12
+  pub at_12 : InRange t.sizes → TooShort t room → First (TablesFault t room) 12
   at_12 r o = lowest (TablesFault.short o) (λ m f. past_11 r f)
 
-  pub at_13 : InRange t.sizes → Long t room → TablesFault t room 13 → FirstOrNone (TablesFault t room) 13
+  pub at_13 : InRange t.sizes → LongEnough t room → TablesFault t room 13 → First (TablesFault t room) 13
   at_13 r l o = lowest o (λ m f. past_12 r l f)
 
-  pub at_none : InRange t.sizes → Long t room → Stays t.sizes.old t.sizes.vectors t.old.next → Stays t.sizes.new t.sizes.vectors t.new.next → FirstOrNone (TablesFault t room) 0
-  at_none r l a b = no_number (λ m f. go f)
+  pub at_none : InRange t.sizes → LongEnough t room → Stays t.sizes.old t.sizes.vectors t.old.next → Stays t.sizes.new t.sizes.vectors t.new.next → Free (TablesFault t room)
+  at_none r l a b m f = go f
     where
       go : {m : ℕ} → TablesFault t room m → ⊥
       go (TablesFault.range o) = range_no r o
-      go (TablesFault.short o) = l.none o
+      go (TablesFault.short o) = long_no l o
       go (TablesFault.old_leads o) = stays_no a o
       go (TablesFault.new_leads o) = stays_no b o
 
@@ -107,23 +124,23 @@ module _ {t : Tables} {room : ℕ} where
   vectors_some (VectorsFault.tables f) = fault_some f
   vectors_some (VectorsFault.allowed w) = omega arith
 
-  pub vectors_tables : {n : ℕ} → (n ≡ 0 → ⊥) → FirstOrNone (TablesFault t room) n → FirstOrNone (VectorsFault t room) n
-  vectors_tables {n} e l = some_number (first_then (λ m f. VectorsFault.tables f) (l.some e) (λ m f. go f))
+  pub vectors_tables : {n : ℕ} → First (TablesFault t room) n → First (VectorsFault t room) n
+  vectors_tables {n} l = first_then (λ m f. VectorsFault.tables f) l (λ m f. go f)
     where
       go : {m : ℕ} → VectorsFault t room m → TablesFault t room m ⊎ (place_in table_order n ≤ place_in table_order m)
       go (VectorsFault.tables f) = inl f
-      go (VectorsFault.allowed w) = inr (omega (arith, tables_place (l.some e).applies, place_20 20 refl))
+      go (VectorsFault.allowed w) = inr (omega (arith, tables_place l.applies, place_20 20 refl))
 
   module _ (none : Free (TablesFault t room)) where
-    pub vectors_20 : WrongAllowed t.sizes → FirstOrNone (VectorsFault t room) 20
-    vectors_20 w = some_number (first_of_place (listed_stands 20 table_order tt) (VectorsFault.allowed w) (λ m f. go f))
+    pub vectors_20 : WrongAllowed t.sizes → First (VectorsFault t room) 20
+    vectors_20 w = first_of_place (listed_stands 20 table_order tt) (VectorsFault.allowed w) (λ m f. go f)
       where
         go : {m : ℕ} → VectorsFault t room m → place_in table_order 20 ≤ place_in table_order m
         go (VectorsFault.tables f) = absurd (none _ f)
         go (VectorsFault.allowed v) = omega arith
 
-    pub vectors_none : (WrongAllowed t.sizes → ⊥) → FirstOrNone (VectorsFault t room) 0
-    vectors_none right = no_number (λ m f. go f)
+    pub vectors_none : (WrongAllowed t.sizes → ⊥) → Free (VectorsFault t room)
+    vectors_none right m f = go f
       where
         go : {m : ℕ} → VectorsFault t room m → ⊥
         go (VectorsFault.tables f) = none _ f

@@ -1,128 +1,76 @@
 // What turns a call away that takes the tables of two designs: sizes out of range, a slice too short, a next state that is no state, a
-// number that allows no vector or one that there is not. No number looks into what a design shows, so of its outputs and watched values
-// only the length of the shorter table is taken (`old_shown`, `new_shown`).
+// number that allows no vector or one that there is not.
 #![tactic(auto)]
 
 ghost use Rattle.std.specs.Prelude.{◌*◌, ◌≤◌, length};
-ghost use Rattle.memory.specs.Meaning.Refusals.{FirstOrNone};
+ghost use Rattle.memory.specs.Meaning.Refusals.{Checked};
 ghost use Rattle.memory.specs.Working.Tests.{Splits, Tells};
 ghost use Rattle.machine.specs.Meaning.Allowed.{WrongAllowed};
 ghost use Rattle.machine.specs.Meaning.Faults.{OutOfRange, TooShort, LeadsOut, TablesFault, VectorsFault};
-ghost use Rattle.table_faults.specs.Working.{ForTables, InRange, LongEnough, Stays};
+ghost use Rattle.machine.specs.Meaning.Tables.{tables_in};
+ghost use Rattle.table_faults.specs.Working.{InRange, LongEnough, Stays};
 
-use machine::Sizes;
+use machine::{Sizes, TablesRef};
+use memory::Refusal;
 
-// The first number that applies to the tables, the lent slices of one entry a pair and the allowed vectors, or 0.
-pub fn vectors_fault(
-    old_next: &[u8],
-    new_next: &[u8],
-    sizes: Sizes,
-    old_shown: usize,
-    new_shown: usize,
-    room: usize,
-) -> u8
-    ensures { ForTables sizes old_next.now new_next.now old_shown new_shown (λ t. FirstOrNone (VectorsFault t room) result) }
+// The first number that applies to the tables, the lent slices of one entry a pair and the allowed vectors.
+pub fn vectors_fault(tables: &TablesRef<'_>, room: usize) -> Result<(), Refusal>
+    ensures { Checked (VectorsFault (tables_in tables.now) room) result }
 {
-    let n = call_fault(old_next, new_next, sizes, old_shown, new_shown, room);
-    if n != 0 {
-        return n;
+    call_fault(tables, room)?;
+    if wrong_allowed(tables.sizes) {
+        return Err(Refusal::WrongAllowed);
     }
-    if wrong_allowed(sizes) {
-        return 20;
-    }
-    0
+    Ok(())
 }
 
 // 20: the number allows none of the V vectors, or one beyond them.
 pub fn wrong_allowed(sizes: Sizes) -> bool
     ensures { Tells result (WrongAllowed sizes) }
 {
-    if sizes.allowed == 0 {
-        return true;
-    }
-    if sizes.vectors >= 64 {
-        return false;
-    }
-    if sizes.allowed >> sizes.vectors != 0 {
-        return true;
-    }
-    false
+    sizes.allowed == 0 || sizes.vectors < 64 && sizes.allowed >> sizes.vectors != 0
 }
 
-// The lowest number that applies to the tables and the lent slices of one entry a pair, or 0.
-pub fn call_fault(
-    old_next: &[u8],
-    new_next: &[u8],
-    sizes: Sizes,
-    old_shown: usize,
-    new_shown: usize,
-    room: usize,
-) -> u8
-    ensures { ForTables sizes old_next.now new_next.now old_shown new_shown (λ t. FirstOrNone (TablesFault t room) result) }
+// The first number that applies to the tables and the lent slices of one entry a pair.
+pub fn call_fault(tables: &TablesRef<'_>, room: usize) -> Result<(), Refusal>
+    ensures { Checked (TablesFault (tables_in tables.now) room) result }
 {
+    let sizes = tables.sizes;
     if out_of_range(sizes) {
-        return 11;
+        return Err(Refusal::SizesOut);
     }
-    if too_short(old_next, new_next, sizes, old_shown, new_shown, room) {
-        return 12;
+    if too_short(tables, room) {
+        return Err(Refusal::ShortSlice);
     }
-    if leads_out(old_next, sizes.old, sizes.vectors) {
-        return 13;
+    if leads_out(tables.old.next, sizes.old, sizes.vectors)
+        || leads_out(tables.new.next, sizes.new, sizes.vectors)
+    {
+        return Err(Refusal::LeadsOut);
     }
-    if leads_out(new_next, sizes.new, sizes.vectors) {
-        return 13;
-    }
-    0
+    Ok(())
 }
 
 // 11: S or V is out of range.
 fn out_of_range(sizes: Sizes) -> bool
     ensures { Splits result (OutOfRange sizes) (InRange sizes) }
 {
-    if sizes.old == 0 {
-        return true;
-    }
-    if sizes.old > 128 {
-        return true;
-    }
-    if sizes.new == 0 {
-        return true;
-    }
-    if sizes.new > 128 {
-        return true;
-    }
-    if sizes.vectors == 0 {
-        return true;
-    }
-    if sizes.vectors > 64 {
-        return true;
-    }
-    false
+    sizes.old == 0
+        || sizes.old > 128
+        || sizes.new == 0
+        || sizes.new > 128
+        || sizes.vectors == 0
+        || sizes.vectors > 64
 }
 
 // 12: a table, or the shortest of the slices of one entry a pair, is too short.
-fn too_short(
-    old_next: &[u8],
-    new_next: &[u8],
-    sizes: Sizes,
-    old_shown: usize,
-    new_shown: usize,
-    room: usize,
-) -> bool
-    requires { InRange sizes }
-    ensures { Splits result (ForTables sizes old_next.now new_next.now old_shown new_shown (λ t. TooShort t room))
-        (LongEnough sizes old_next.now new_next.now old_shown new_shown room) }
+fn too_short(tables: &TablesRef<'_>, room: usize) -> bool
+    requires { InRange tables.now.sizes }
+    ensures { Splits result (TooShort (tables_in tables.now) room) (LongEnough (tables_in tables.now) room) }
 {
-    if memory::shorter(old_next.len(), old_shown) < sizes.old * sizes.vectors {
-        return true;
-    }
-    if memory::shorter(new_next.len(), new_shown) < sizes.new * sizes.vectors {
-        return true;
-    }
-    if room < sizes.old * sizes.new {
-        return true;
-    }
-    false
+    let sizes = tables.sizes;
+    tables.old.room() < sizes.old * sizes.vectors
+        || tables.new.room() < sizes.new * sizes.vectors
+        || room < sizes.old * sizes.new
 }
 
 // 13: a next state is not below the number of states.
@@ -132,13 +80,7 @@ fn leads_out(next: &[u8], states: usize, vectors: usize) -> bool
     requires vectors_in_bounds { states * vectors ≤ length next.now }
     ensures { Splits result (LeadsOut states vectors next.now) (Stays states vectors next.now) }
 {
-    let end = states * vectors;
-    let mut i = 0;
-    while i < end {
-        if next[i] as usize >= states {
-            return true;
-        }
-        i += 1;
-    }
-    false
+    next[..states * vectors]
+        .iter()
+        .any(|s| usize::from(*s) >= states)
 }

@@ -1,60 +1,67 @@
-// The calls that can be asked, by number: those of two designs come first, then those of one, then the others.
-use crate::words;
+// The calls that can be asked, and what each takes.
 
-pub(crate) const COMPARE: usize = 1;
-
-pub(crate) const TABULATE_BOTH: usize = 2;
-
-pub(crate) const TABULATE: usize = 3;
-
-pub(crate) const WRITE: usize = 4;
-
-pub(crate) const CLOCK: usize = 5;
-
-pub(crate) const FAULT_OF: usize = 6;
-
-pub(crate) const LEVELIZE: usize = 7;
-
-pub(crate) const LENGTH_OF: usize = 8;
-
-pub(crate) const READ: usize = 9;
-
-pub(crate) const MAP_ALIKE: usize = 10;
-
-pub(crate) const MAP_ALIGNABLE: usize = 11;
-
-pub(crate) const TRACE_OF: usize = 12;
-
-pub(crate) const LIST_OF: usize = 13;
-
-pub(crate) const JUDGE: usize = 14;
-
-pub(crate) const EARLIER_NUMBER: usize = 15;
-
-// The number of the call of a name: how many names stand up to it, each between spaces; one that is not there has a higher number.
-pub(crate) fn call_of(names: &[u8], name: &[u8]) -> usize {
-    let mut call = 0;
-    let mut i = 0;
-    while i < names.len() {
-        if names[i] == b' ' {
-            call += 1;
-            if begins(&names[i..], name) {
-                return call;
-            }
-        }
-        i += 1;
-    }
-    call
+#[derive(Clone, Copy)]
+pub(crate) enum Call {
+    Compare,
+    TabulateBoth,
+    Tabulate,
+    Write,
+    Clock,
+    FaultOf,
+    Levelize,
+    LengthOf,
+    Read,
+    MapAlike,
+    MapAlignable,
+    TraceOf,
+    ListOf,
+    Judge,
+    EarlierNumber,
 }
 
-// Whether a text begins with a space, a word and a space.
-fn begins(text: &[u8], word: &[u8]) -> bool {
-    let mut i = 0;
-    while i < word.len() {
-        if words::byte_at(text, i + 1) != word[i] {
-            return false;
+impl Call {
+    // The call of a name.
+    pub(crate) fn named(name: &[u8]) -> Option<Call> {
+        match name {
+            b"compare" => Some(Call::Compare),
+            b"tabulate_both" => Some(Call::TabulateBoth),
+            b"tabulate" => Some(Call::Tabulate),
+            b"write" => Some(Call::Write),
+            b"clock" => Some(Call::Clock),
+            b"fault_of" => Some(Call::FaultOf),
+            b"levelize" => Some(Call::Levelize),
+            b"length_of" => Some(Call::LengthOf),
+            b"read" => Some(Call::Read),
+            b"map_alike" => Some(Call::MapAlike),
+            b"map_alignable" => Some(Call::MapAlignable),
+            b"trace_of" => Some(Call::TraceOf),
+            b"list_of" => Some(Call::ListOf),
+            b"judge" => Some(Call::Judge),
+            b"earlier_number" => Some(Call::EarlierNumber),
+            _ => None,
         }
-        i += 1;
     }
-    words::byte_at(text, i + 1) == b' '
+
+    // Whether it takes a design, the old one if it takes two.
+    pub(crate) fn takes_old(self) -> bool {
+        match self {
+            Call::Tabulate | Call::Write | Call::Clock | Call::FaultOf | Call::Levelize => true,
+            _ => self.takes_new(),
+        }
+    }
+
+    // Whether it takes two designs.
+    pub(crate) fn takes_new(self) -> bool {
+        matches!(self, Call::Compare | Call::TabulateBoth)
+    }
+
+    // Whether it takes so many numbers and so many bytes.
+    pub(crate) fn takes(self, numbers: usize, bytes: usize) -> bool {
+        match self {
+            Call::FaultOf | Call::Levelize => numbers == 0 && bytes == 0,
+            Call::LengthOf | Call::Read => numbers == 0,
+            Call::EarlierNumber => bytes == 0,
+            _ => bytes == 0 || !self.takes_old(),
+        }
+    }
 }

@@ -1,7 +1,7 @@
 // Designs: an image in hexadecimal, or a list of all that stands in memory.
-use crate::{slices, words};
-use image::Answer;
+use crate::words;
 use limits::Image;
+use memory::Refusal;
 use netlist::{Cell, Design, Gate};
 
 // Where nets and cells stand in such a list, behind its 4 sizes; and how many numbers it has.
@@ -17,59 +17,62 @@ const CELLS_AT: usize = SHOWN_AT + Image::MOST_OUTPUTS;
 
 const NUMBERS: usize = CELLS_AT + 3 * Image::MOST_CELLS;
 
-// A design, and where it ends; 0 where it is spelled wrong.
+// A design, and what of the line stands behind it.
 #[derive(Clone, Copy)]
-pub(crate) struct Drawn {
+pub(crate) struct Drawn<'a> {
     pub design: Design,
-    pub next: usize,
+    pub rest: &'a [u8],
 }
 
-// Reads a design, if one is wanted; else it is the empty one.
-pub(crate) fn drawn_at(line: &[u8], at: usize, wanted: bool) -> Drawn {
+// Reads a design, if one is wanted and it is spelled right; else it is the empty one.
+pub(crate) fn drawn_at(line: &[u8], wanted: bool) -> Option<Drawn<'_>> {
     if !wanted {
-        let none = image::refusal(0);
-        let design = none.design;
-        return Drawn { design, next: at };
+        let none = image::refusal(Refusal::FewBytes);
+        return Some(Drawn {
+            design: none.design,
+            rest: line,
+        });
     }
     let mut list = [0u16; NUMBERS];
-    let w = words::numbers(line, at, &mut list);
-    if w.len > 0 {
-        let design = in_memory(&list);
-        return Drawn {
-            design,
-            next: w.next,
-        };
+    let word = words::numbers(line, &mut list)?;
+    if word.len > 0 {
+        return Some(Drawn {
+            design: in_memory(&list),
+            rest: word.rest,
+        });
     }
+    drawn_by_image(line)
+}
+
+// Reads a design that is given as an image.
+fn drawn_by_image(line: &[u8]) -> Option<Drawn<'_>> {
     let mut bytes = [0u8; Image::MOST_BYTES];
-    let w = words::bytes(line, at, &mut bytes);
-    let r = image::read(slices::cut(&bytes, 0, w.len));
-    let answer = r.answer;
-    let design = r.design;
-    match answer {
-        Answer::Accepted => Drawn {
-            design,
-            next: w.next,
-        },
-        Answer::Refused(_) => Drawn { design, next: 0 },
-    }
+    let word = words::bytes(line, &mut bytes)?;
+    let reading = image::read(&bytes[..word.len]);
+    let answer = reading.answer;
+    answer.ok()?;
+    Some(Drawn {
+        design: reading.design,
+        rest: word.rest,
+    })
 }
 
 // The design of a list: sizes, data, enable and clear nets of the flip-flops, nets shown as outputs, cells.
 fn in_memory(list: &[u16; NUMBERS]) -> Design {
     let mut data = [0u16; Image::MOST_LATCHES];
-    take_nets(list, DATA_AT, &mut data);
+    data.copy_from_slice(&list[DATA_AT..ENABLE_AT]);
     let mut enable = [0u16; Image::MOST_LATCHES];
-    take_nets(list, ENABLE_AT, &mut enable);
+    enable.copy_from_slice(&list[ENABLE_AT..CLEAR_AT]);
     let mut clear = [0u16; Image::MOST_LATCHES];
-    take_nets(list, CLEAR_AT, &mut clear);
+    clear.copy_from_slice(&list[CLEAR_AT..SHOWN_AT]);
     let mut shown = [0u16; Image::MOST_OUTPUTS];
-    take_nets(list, SHOWN_AT, &mut shown);
+    shown.copy_from_slice(&list[SHOWN_AT..CELLS_AT]);
     Design {
         inputs: low(list[0]),
         latches: low(list[1]),
         outputs: low(list[2]),
         count: list[3],
-        cells: cells_of(list),
+        cells: cells_of(&list[CELLS_AT..]),
         data,
         enable,
         clear,
@@ -77,38 +80,17 @@ fn in_memory(list: &[u16; NUMBERS]) -> Design {
     }
 }
 
-// Puts the numbers from a place on into a list of nets, as far as there are any.
-fn take_nets(list: &[u16; NUMBERS], from: usize, nets: &mut [u16]) {
-    let mut at = from;
-    let mut k = 0;
-    while k < nets.len() {
-        if at >= NUMBERS {
-            return;
-        }
-        nets[k] = list[at];
-        at += 1;
-        k += 1;
-    }
-}
-
 // A number that a byte holds, or else the most that it does.
 pub(crate) fn low(n: u16) -> u8 {
-    if n > 255 {
-        return 255;
-    }
-    n as u8
+    u8::try_from(n).unwrap_or(u8::MAX)
 }
 
 // Cells of three numbers each: kind, first net, second net.
-fn cells_of(list: &[u16; NUMBERS]) -> [Cell; Image::MOST_CELLS] {
+fn cells_of(list: &[u16]) -> [Cell; Image::MOST_CELLS] {
     let mut cells = [Cell { gate: Gate::Buf(0) }; Image::MOST_CELLS];
-    let mut i = 0;
-    while i < Image::MOST_CELLS {
-        let at = CELLS_AT + 3 * i;
-        cells[i] = Cell {
-            gate: gate_of(list[at], list[at + 1], list[at + 2]),
-        };
-        i += 1;
+    for (cell, numbers) in cells.iter_mut().zip(list.as_chunks::<3>().0) {
+        let [kind, a, b] = *numbers;
+        cell.gate = gate_of(kind, a, b);
     }
     cells
 }

@@ -33,26 +33,25 @@
 // by where it stands.
 #![tactic(auto)]
 
+mod asked;
 mod calls;
 mod designs;
+mod given;
 mod show;
-mod slices;
+mod tables;
 mod words;
 
-ghost use Rattle.std.specs.Prelude.{◌≤◌, length};
+use asked::Question;
+use calls::Call;
+use designs::low;
+use machine::TablesRef;
+use memory::Scratch;
+use tables::{Lent, MOST, PairRoom, TableRoom, front};
 
-use machine::{Pair, Sizes};
-use netlist::Design;
-use std::num::wrapping_sub_usize;
-
-// The most bytes of all lines, entries of a slice that is written, bytes of a list that is read, and numbers of a question.
+// The most bytes of all lines, and bytes of a list that is read.
 const LINES: usize = 262144;
 
-const SLICE: usize = 65536;
-
 const BYTES: usize = 50000;
-
-const NUMBERS: usize = 40;
 
 fn main() {
     let mut all = [0u8; LINES];
@@ -61,397 +60,163 @@ fn main() {
         show::word(b"NO QUESTIONS: the lines have more than 262,143 bytes\n");
         return;
     }
-    ask_all(slices::cut(&all, 0, n));
+    ask_all(&all[..n]);
 }
 
 // Goes through the lines.
 fn ask_all(all: &[u8]) {
-    let mut at = 0;
-    while at < all.len() {
-        let end = find(all, at, b'\n');
-        ask(&all[at..end]);
+    for line in all.split_inclusive(|c| *c == b'\n') {
+        ask(line.strip_suffix(b"\n").unwrap_or(line));
         io::write_all(1, b"\n");
-        at = end + 1;
     }
-}
-
-// Where the first such byte stands at or behind a place, or else the end.
-fn find(line: &[u8], from: usize, byte: u8) -> usize
-    requires { from ≤ length line.now }
-    ensures { (from ≤ result) × (result ≤ length line.now) }
-{
-    let mut i = from;
-    while i < line.len() {
-        if line[i] == byte {
-            return i;
-        }
-        i += 1;
-    }
-    i
 }
 
 // Repeats a heading, or answers a question.
 fn ask(line: &[u8]) {
-    match words::byte_at(line, 0) {
-        0 | b' ' | b'#' => show::word(line),
+    match line {
+        [] | [0 | b' ' | b'#', ..] => show::word(line),
         _ => ask_call(line),
     }
 }
 
-// Reads the words of a question.
+// Reads a question, and answers it.
 fn ask_call(line: &[u8]) {
-    let end = find(line, 0, b' ');
-    let call = calls::call_of(
-        b" compare tabulate_both tabulate write clock fault_of levelize length_of read map_alike map_alignable trace_of list_of judge earlier_number ",
-        slices::cut(line, 0, end),
-    );
-    let old = designs::drawn_at(line, end, call <= calls::LEVELIZE);
-    let new = designs::drawn_at(line, old.next, call <= calls::TABULATE_BOTH);
-    let mut numbers = [0u16; NUMBERS];
-    let f = words::numbers(line, new.next, &mut numbers);
     let mut bytes = [0u8; BYTES];
-    let b = words::bytes(line, f.next, &mut bytes);
-    if b.next != line.len() || !takes(call, f.len, b.len) {
-        show::word(b"NO QUESTION: a word is missing, spelled wrong, too long or one too many");
-        return;
-    }
-    let old = old.design;
-    let new = new.design;
-    answer(
-        call,
-        old,
-        new,
-        numbers,
-        f.len,
-        slices::cut(&bytes, 0, b.len),
-    );
-}
-
-// Whether a call takes so many numbers and so many bytes.
-fn takes(call: usize, numbers: usize, bytes: usize) -> bool {
-    match call {
-        calls::FAULT_OF | calls::LEVELIZE => numbers == 0 && bytes == 0,
-        calls::LENGTH_OF | calls::READ => numbers == 0,
-        calls::COMPARE..=calls::CLOCK | calls::EARLIER_NUMBER => bytes == 0,
-        _ => true,
+    match asked::question_of(line, &mut bytes) {
+        None => show::word(
+            b"NO QUESTION: a word is missing, spelled wrong, too long or one too many",
+        ),
+        Some(question) => answer(&question),
     }
 }
 
-// Puts a question of which so many numbers are given.
-fn answer(call: usize, old: Design, new: Design, n: [u16; NUMBERS], given: usize, bytes: &[u8]) {
-    match call {
-        calls::COMPARE => ask_compare(old, new, n, given),
-        calls::TABULATE_BOTH => ask_tabulate_both(old, new, n, given),
-        calls::TABULATE => ask_tabulate(old, n, given),
-        calls::WRITE => ask_write(old, n),
-        calls::CLOCK => ask_clock(old, n),
-        calls::FAULT_OF => show::item(b"fault ", order::fault_of(old) as usize),
-        calls::LEVELIZE => ask_levelize(old),
-        calls::LENGTH_OF => show::measured(image::length_of(bytes)),
-        calls::READ => show::reading(image::read(bytes)),
-        calls::MAP_ALIKE..=calls::JUDGE => ask_tables(call, n, given, bytes),
-        calls::EARLIER_NUMBER => ask_earlier_number(n),
-        _ => show::word(b"NO QUESTION: no such call"),
+// Puts a question, and shows what is answered.
+fn answer(q: &Question<'_>) {
+    match q.call {
+        None => show::word(b"NO QUESTION: no such call"),
+        Some(Call::Compare) => ask_compare(q),
+        Some(Call::TabulateBoth) => ask_tabulate_both(q),
+        Some(Call::Tabulate) => ask_tabulate(q),
+        Some(Call::Write) => ask_write(q),
+        Some(Call::Clock) => ask_clock(q),
+        Some(Call::FaultOf) => show::refusal(b"fault ", order::fault_of(q.old)),
+        Some(Call::Levelize) => show::plan(order::levelize(q.old)),
+        Some(Call::LengthOf) => show::answer(image::length_of(q.bytes), show::bytes),
+        Some(Call::Read) => show::reading(image::read(q.bytes)),
+        Some(Call::MapAlike) => ask_tables(q, |tables, scratch, mark| {
+            show::answer(engine::map_alike(tables, scratch, mark), show::alike);
+        }),
+        Some(Call::MapAlignable) => ask_tables(q, |tables, scratch, mark| {
+            show::answer(engine::map_alignable(tables, scratch, mark), show::marked);
+        }),
+        Some(Call::TraceOf) => ask_tables(q, |tables, scratch, list| {
+            show::answer(
+                engine::trace_of(tables, q.numbers.pair(), scratch, list),
+                show::steps,
+            );
+        }),
+        Some(Call::ListOf) => ask_tables(q, |tables, scratch, list| {
+            show::answer(
+                engine::list_of(tables, q.numbers.pair(), scratch, list),
+                show::steps,
+            );
+        }),
+        Some(Call::Judge) => ask_tables(q, |tables, scratch, list| {
+            show::judged(verdict::judge(tables, scratch, list));
+        }),
+        Some(Call::EarlierNumber) => ask_earlier_number(q),
     }
 }
 
-// The lengths of the slices of a question, in the order of the call's parameters.
-#[derive(Clone, Copy)]
-struct Lengths {
-    a: usize,
-    b: usize,
-    c: usize,
-    d: usize,
-    e: usize,
-    f: usize,
-    g: usize,
-    h: usize,
-    i: usize,
-}
-
-fn lengths_of(n: [u16; NUMBERS]) -> Lengths {
-    Lengths {
-        a: wide(n[1]),
-        b: wide(n[2]),
-        c: wide(n[3]),
-        d: wide(n[4]),
-        e: wide(n[5]),
-        f: wide(n[6]),
-        g: wide(n[7]),
-        h: wide(n[8]),
-        i: wide(n[9]),
-    }
-}
-
-fn wide(n: u16) -> usize
-    ensures { result ≤ 65535 }
-{
-    n as usize
-}
-
-fn ask_compare(old: Design, new: Design, n: [u16; NUMBERS], given: usize) {
-    let lengths = lengths_of(n);
-    let allowed = allowed_of(n, 10, given, vectors_of(old.inputs));
-    let number = n[0];
-    let held = designs::low(number);
-    let end = 15 + wide(n[14]);
-    let watch0 = slices::nets(&n, 15, end);
-    let watch1 = slices::nets(&n, end, given);
-    let mut next0 = [held; SLICE];
-    let mut out0 = [held; SLICE];
-    let mut seen0 = [held; SLICE];
-    let mut next1 = [held; SLICE];
-    let mut out1 = [held; SLICE];
-    let mut seen1 = [held; SLICE];
-    compare_in(
-        old,
-        new,
-        watch0,
-        watch1,
-        allowed,
-        number,
-        lengths,
-        slices::bytes(&mut next0, lengths.a),
-        slices::bytes(&mut out0, lengths.b),
-        slices::bytes(&mut seen0, lengths.c),
-        slices::bytes(&mut next1, lengths.d),
-        slices::bytes(&mut out1, lengths.e),
-        slices::bytes(&mut seen1, lengths.f),
-    );
-}
-
-// Lends scratch and a list slice, which hold a number at entry, beside table slices.
-fn compare_in(
-    old: Design,
-    new: Design,
-    watch0: &[u16],
-    watch1: &[u16],
-    allowed: u64,
-    number: u16,
-    lengths: Lengths,
-    next0: &mut [u8],
-    out0: &mut [u8],
-    seen0: &mut [u8],
-    next1: &mut [u8],
-    out1: &mut [u8],
-    seen1: &mut [u8],
-) {
-    let held = designs::low(number);
-    let mut depth = [held; SLICE];
-    let mut reach = [number; SLICE];
-    let mut list = [held; SLICE];
-    let depth = slices::bytes(&mut depth, lengths.g);
-    let reach = slices::numbers(&mut reach, lengths.h);
-    let list = slices::bytes(&mut list, lengths.i);
+fn ask_compare(q: &Question<'_>) {
+    let n = &q.numbers;
+    let mut old_room = TableRoom::of(n.held());
+    let mut new_room = TableRoom::of(n.held());
+    let mut pair_room = PairRoom::of(n.at(0));
+    let mut old_table = old_room.lend(n.table_lengths(1));
+    let mut new_table = new_room.lend(n.table_lengths(4));
+    let Lent { mut scratch, list } = pair_room.lend(n.pair_lengths());
+    let end = 15 + usize::from(n.at(14));
     let judged = compare::compare(
-        old, new, watch0, watch1, allowed, next0, out0, seen0, next1, out1, seen1, depth, reach,
+        q.old,
+        q.new,
+        n.part(15, end),
+        n.part(end, n.given),
+        n.allowed(10, 1 << q.old.inputs.min(6)),
+        &mut old_table,
+        &mut new_table,
+        &mut scratch,
         list,
     );
     show::judged(judged);
-    show::tables(next0, out0, seen0);
-    show::tables(next1, out1, seen1);
-    show::scratch(depth, reach);
-    show::bytes(list, false);
+    show::table(&old_table);
+    show::table(&new_table);
+    show::scratch(&scratch);
+    show::entries(list);
 }
 
-fn ask_tabulate_both(old: Design, new: Design, n: [u16; NUMBERS], given: usize) {
-    let lengths = lengths_of(n);
-    let held = designs::low(n[0]);
-    let end = 8 + wide(n[7]);
-    let watch0 = slices::nets(&n, 8, end);
-    let watch1 = slices::nets(&n, end, given);
-    let mut next0 = [held; SLICE];
-    let mut out0 = [held; SLICE];
-    let mut seen0 = [held; SLICE];
-    let mut next1 = [held; SLICE];
-    let mut out1 = [held; SLICE];
-    let mut seen1 = [held; SLICE];
-    let next0 = slices::bytes(&mut next0, lengths.a);
-    let out0 = slices::bytes(&mut out0, lengths.b);
-    let seen0 = slices::bytes(&mut seen0, lengths.c);
-    let next1 = slices::bytes(&mut next1, lengths.d);
-    let out1 = slices::bytes(&mut out1, lengths.e);
-    let seen1 = slices::bytes(&mut seen1, lengths.f);
+fn ask_tabulate_both(q: &Question<'_>) {
+    let n = &q.numbers;
+    let mut old_room = TableRoom::of(n.held());
+    let mut new_room = TableRoom::of(n.held());
+    let mut old_table = old_room.lend(n.table_lengths(1));
+    let mut new_table = new_room.lend(n.table_lengths(4));
+    let end = 8 + usize::from(n.at(7));
     let tabulated = simulator::tabulate_both(
-        old, new, watch0, watch1, next0, out0, seen0, next1, out1, seen1,
+        q.old,
+        q.new,
+        n.part(8, end),
+        n.part(end, n.given),
+        &mut old_table,
+        &mut new_table,
     );
-    show::tabulated_both(tabulated);
-    show::tables(next0, out0, seen0);
-    show::tables(next1, out1, seen1);
+    show::answer(tabulated, show::both_sizes);
+    show::table(&old_table);
+    show::table(&new_table);
 }
 
-fn ask_tabulate(design: Design, n: [u16; NUMBERS], given: usize) {
-    let lengths = lengths_of(n);
-    let held = designs::low(n[0]);
-    let mut next = [held; SLICE];
-    let mut out = [held; SLICE];
-    let mut seen = [held; SLICE];
-    let next = slices::bytes(&mut next, lengths.a);
-    let out = slices::bytes(&mut out, lengths.b);
-    let seen = slices::bytes(&mut seen, lengths.c);
-    let tabulated = simulator::tabulate(design, slices::nets(&n, 4, given), next, out, seen);
-    show::tabulated(tabulated);
-    show::tables(next, out, seen);
+fn ask_tabulate(q: &Question<'_>) {
+    let n = &q.numbers;
+    let mut room = TableRoom::of(n.held());
+    let mut table = room.lend(n.table_lengths(1));
+    let tabulated = simulator::tabulate(q.old, n.part(4, n.given), &mut table);
+    show::answer(tabulated, show::sizes);
+    show::table(&table);
 }
 
-fn ask_write(design: Design, n: [u16; NUMBERS]) {
-    let length = wide(n[1]);
-    let mut image = [designs::low(n[0]); SLICE];
-    let image = slices::bytes(&mut image, length);
-    let written = writer::write(design, image);
-    show::written(written);
-    show::bytes(image, true);
+fn ask_write(q: &Question<'_>) {
+    let n = &q.numbers;
+    let mut room = [n.held(); MOST];
+    let image = front(&mut room, n.at(1));
+    show::answer(writer::write(q.old, image), show::bytes);
+    show::image(image);
 }
 
-fn ask_clock(design: Design, n: [u16; NUMBERS]) {
-    let clocked = simulator::clock(design, wide(n[0]), wide(n[1]));
-    show::clocked(clocked);
+fn ask_clock(q: &Question<'_>) {
+    let n = &q.numbers;
+    let state = usize::from(n.at(0));
+    let vector = usize::from(n.at(1));
+    show::answer(simulator::clock(q.old, state, vector), show::step);
 }
 
-fn ask_levelize(design: Design) {
-    let plan = order::levelize(design);
-    show::item(b"number ", plan.number as usize);
-    show::item(b" kept ", plan.kept);
-    let cells = plan.cells;
-    show::numbers(&cells);
+fn ask_earlier_number(q: &Question<'_>) {
+    let n = &q.numbers;
+    let number = memory::earlier_number(low(n.at(0)), low(n.at(1)));
+    show::item(b"number ", usize::from(number));
 }
 
-fn ask_earlier_number(n: [u16; NUMBERS]) {
-    let number = memory::earlier_number(designs::low(n[0]), designs::low(n[1]));
-    show::item(b"number ", number as usize);
-}
-
-// Cuts the six tables out of a list, and takes the sizes and the pair.
-fn ask_tables(call: usize, n: [u16; NUMBERS], given: usize, bytes: &[u8]) {
-    let a = wide(n[1]);
-    let b = a + wide(n[2]);
-    let c = b + wide(n[3]);
-    let d = c + wide(n[4]);
-    let e = d + wide(n[5]);
-    let f = e + wide(n[6]);
-    if bytes.len() != f {
+// Lends tables that the bytes hold, and scratch and a mark or list slice beside them.
+fn ask_tables<F: FnOnce(&TablesRef<'_>, &mut Scratch<'_>, &mut [u8])>(q: &Question<'_>, asked: F)
+    requires { F.IsAlwaysCallable asked }
+{
+    let Some(tables) = tables::tables_of(q) else {
         show::word(b"NO QUESTION: the tables have other lengths");
         return;
-    }
-    lend(
-        call,
-        n,
-        sizes_of(n, given),
-        slices::cut(bytes, 0, a),
-        slices::cut(bytes, a, b),
-        slices::cut(bytes, b, c),
-        slices::cut(bytes, c, d),
-        slices::cut(bytes, d, e),
-        slices::cut(bytes, e, f),
-    );
-}
-
-// Lends scratch and a mark or list slice beside tables.
-fn lend(
-    call: usize,
-    n: [u16; NUMBERS],
-    sizes: Sizes,
-    next0: &[u8],
-    out0: &[u8],
-    seen0: &[u8],
-    next1: &[u8],
-    out1: &[u8],
-    seen1: &[u8],
-) {
-    let lengths = lengths_of(n);
-    let pair = pair_of(n);
-    let held = designs::low(n[0]);
-    let mut depth = [held; SLICE];
-    let mut reach = [n[0]; SLICE];
-    let mut list = [held; SLICE];
-    let depth = slices::bytes(&mut depth, lengths.g);
-    let reach = slices::numbers(&mut reach, lengths.h);
-    let list = slices::bytes(&mut list, lengths.i);
-    answer_tables(
-        call, next0, out0, seen0, next1, out1, seen1, sizes, pair, depth, reach, list,
-    );
-    show::scratch(depth, reach);
-    show::bytes(list, false);
-}
-
-fn sizes_of(n: [u16; NUMBERS], given: usize) -> Sizes {
-    let vectors = wide(n[12]);
-    Sizes {
-        old: wide(n[10]),
-        new: wide(n[11]),
-        vectors,
-        allowed: allowed_of(n, 15, given, vectors),
-    }
-}
-
-// The number that names the allowed vectors, whose four parts stand from a place on; where none is given, one that allows all.
-fn allowed_of(n: [u16; NUMBERS], at: usize, given: usize, vectors: usize) -> u64
-    requires { at ≤ 15 }
-{
-    if given <= at {
-        return every(vectors);
-    }
-    (n[at] as u64) << 48 | (n[at + 1] as u64) << 32 | (n[at + 2] as u64) << 16 | n[at + 3] as u64
-}
-
-// How many vectors a design has; of one with too many inputs, which is refused, as many as any.
-fn vectors_of(inputs: u8) -> usize {
-    if inputs > 6 {
-        return 64;
-    }
-    1usize << inputs
-}
-
-// The number that allows every one of so many vectors.
-fn every(vectors: usize) -> u64 {
-    if vectors >= 64 {
-        return 18446744073709551615;
-    }
-    wrapping_sub_usize(1usize << vectors, 1) as u64
-}
-
-fn pair_of(n: [u16; NUMBERS]) -> Pair {
-    Pair {
-        old: wide(n[13]),
-        new: wide(n[14]),
-    }
-}
-
-// Puts a question on tables, those of next states (n), outputs (o) and watched values (w) of either design.
-fn answer_tables(
-    call: usize,
-    n0: &[u8],
-    o0: &[u8],
-    w0: &[u8],
-    n1: &[u8],
-    o1: &[u8],
-    w1: &[u8],
-    sizes: Sizes,
-    pair: Pair,
-    depth: &mut [u8],
-    reach: &mut [u16],
-    list: &mut [u8],
-) {
-    match call {
-        calls::MAP_ALIKE => {
-            let r = engine::map_alike(n0, o0, w0, n1, o1, w1, sizes, depth, reach, list);
-            show::alike(r);
-        }
-        calls::MAP_ALIGNABLE => {
-            let r = engine::map_alignable(n0, o0, w0, n1, o1, w1, sizes, depth, reach, list);
-            show::alignable(r);
-        }
-        calls::TRACE_OF => {
-            let r = engine::trace_of(n0, o0, w0, n1, o1, w1, sizes, pair, depth, reach, list);
-            show::found(r);
-        }
-        calls::LIST_OF => {
-            let r = engine::list_of(n0, o0, w0, n1, o1, w1, sizes, pair, depth, reach, list);
-            show::found(r);
-        }
-        _ => {
-            let r = verdict::judge(n0, o0, w0, n1, o1, w1, sizes, depth, reach, list);
-            show::judged(r);
-        }
-    }
+    };
+    let n = &q.numbers;
+    let mut room = PairRoom::of(n.at(0));
+    let Lent { mut scratch, list } = room.lend(n.pair_lengths());
+    asked(&tables, &mut scratch, list);
+    show::scratch(&scratch);
+    show::entries(list);
 }

@@ -1,28 +1,27 @@
 -- The loop that builds the verdict's list.
+use Rattle.std.proofs.Common.{Some, None, Result, Err}
 use mathlib.Core.Path.{◌≡◌, refl, sym, ap, ◌∙◌, subst}
 use mathlib.Core.Bool.{Bool, true, false}
 use mathlib.Core.List.{List, [], ◌∷◌, ◌++◌}
-use Prim.Native.Nat.{ℕ, ◌<◌, ◌≤◌, ◌+◌}
+use Prim.Native.Nat.{ℕ, ◌<◌, ◌≤◌, ◌+◌, ◌-◌}
 use native.Mathlib.Omega.{arith}
 use lib.Dec.{eqb, eqb_refl, eqb→eq}
-use lib.ListN.{length, get_or, take, replicate, length-append}
-use lib.Seq.{slice, length-take-le}
+use lib.ListN.{length, get_or, take, drop, replicate, length-append}
+use lib.Seq.{length-take-le}
 use Rattle.numbers.proofs.Order.{stable}
 use Rattle.memory.specs.Meaning.Slices.{Zero, Cleared}
 use Rattle.memory.proofs.Slices.{zero_unique}
-use Rattle.memory.specs.Meaning.Tables.{table_of}
-use Rattle.machine.specs.declared.Found.{Found}
+use Rattle.memory.specs.declared.Refusal.{Refusal}
 use Rattle.machine.specs.declared.Pair.{Pair}
-use Rattle.machine.specs.declared.Prior.{Prior}
 use Rattle.machine.specs.declared.Sizes.{Sizes}
 use Rattle.machine.specs.Meaning.Lists.{Each, run}
 use Rattle.machine.specs.Meaning.Machine.{Machine}
 use Rattle.machine.specs.Meaning.Pick.{after}
-use Rattle.machine.specs.Meaning.Tables.{Tables, tables_of, pairs, number, at, In, Ok, old_machine, new_machine, AlikeIn}
+use Rattle.machine.specs.Meaning.Tables.{Tables, pairs, number, at, In, Ok, old_machine, new_machine, AlikeIn}
 use Rattle.machine.specs.Meaning.Verdict.{May, LowestOpen, Rounds, done, more, AllAlign}
 use Rattle.machine.specs.Working.Pairs.{pair_at, step_in, ListAfterIn}
 use Rattle.machine.proofs.Answers.{run-pair}
-use Rattle.machine.proofs.Lists.{each_append}
+use Rattle.machine.proofs.Lists.{each_append, each_at}
 use Rattle.machine.proofs.Maps.{goal_of_one, one_of_goal}
 use Rattle.machine.proofs.Numbers.{same_pair, pair_number, number_in, pair_at_in, number_pair}
 use Rattle.machine.proofs.Finding.{Test}
@@ -34,15 +33,10 @@ use Rattle.finding.proofs.Lists.{listed, reached}
 use Rattle.marks.specs.Working.{Leading, Successors}
 use Rattle.marks.proofs.Moving.{After, after_none, after_more, run_under}
 use Rattle.verdict.specs.Working.Deciding.{SameIn, OpenAt, Reached, Follows, Added, Appended, added, full}
-use Rattle.verdict.proofs.Parts.{slice_at}
 
--- how many pairs of power-up states a list does not lead to a pair for which the map holds 1; outputs and watched values play no part in it
-abbrev pub open_pairs : Sizes → List ℕ → List ℕ → List ℕ → List ℕ → ℕ
-open_pairs z next0 next1 reach l = unaligned (old_machine (tables_of z (table_of next0 [] []) (table_of next1 [] []))) (new_machine (tables_of z (table_of next0 [] []) (table_of next1 [] []))) z (λ p. eqb (at z reach p) 1) l
-
-same_open : (t : Tables) (reach l : List ℕ) → unaligned (old_machine t) (new_machine t) t.sizes (λ p. eqb (at t.sizes reach p) 1) l ≡ open_pairs t.sizes t.old.next t.new.next reach l
-unfolding unaligned
-same_open t reach l = refl
+-- how many pairs of power-up states a list does not lead to a pair for which the map holds 1
+abbrev pub open_pairs : Tables → List ℕ → List ℕ → ℕ
+open_pairs t reach l = unaligned (old_machine t) (new_machine t) t.sizes (λ p. eqb (at t.sizes reach p) 1) l
 
 module _ (t : Tables) where
   abbrev z : Sizes
@@ -117,76 +111,75 @@ module _ (t : Tables) where
       may_inside : (q : Pair) → May m0 m1 z (take len list) q → In z q
       may_inside q y = may_in m0 m1 (Ok z) z (inside t m.good) (take len list) w.ok q y
 
-      module _ {i : ℕ} (s : LowestBelow (OpenAt z marks0 marks1 reach) (pairs z) i) where
-        -- a pair below the one that the scan found is alike
-        below : (q : Pair) → May m0 m1 z (take len list) q → number z q < i → AlikeIn t q
-        below q y h = alike_one q iq (stable (at z reach q) 1 (λ n. s.below (number z q) h (record { mark0 = ap (λ (x : Pair). get_or marks0 x.old false) (pair_number z q iq) ∙ (marked q y).0; mark1 = ap (λ (x : Pair). get_or marks1 x.new false) (pair_number z q iq) ∙ (marked q y).1; unlike = n })))
-          where
-            iq : In z q
-            iq = may_inside q y
+      -- where no number below i is of an open pair, the pairs of these numbers are alike
+      below : (i : ℕ) → ((j : ℕ) → j < i → OpenAt z marks0 marks1 reach j → ⊥) → (q : Pair) → May m0 m1 z (take len list) q → number z q < i → AlikeIn t q
+      below i none q y h = alike_one q iq (stable (at z reach q) 1 (λ n. none (number z q) h (record { mark0 = ap (λ (x : Pair). get_or marks0 x.old false) (pair_number z q iq) ∙ (marked q y).0; mark1 = ap (λ (x : Pair). get_or marks1 x.new false) (pair_number z q iq) ∙ (marked q y).1; unlike = n })))
+        where
+          iq : In z q
+          iq = may_inside q y
 
-        -- every pair is alike: the rounds are done
-        pub aligned : i ≡ pairs z → Outcome ⊥ (SameIn t) list₀ list (Found.Steps len)
-        aligned e = steps (λ x. x) len (omega (arith, w.long, w.under)) (record { all = all; rounds = w.joins (take len list) (done refl (λ q y. below q y (omega (arith, number_in z q (may_inside q y))))) }) w.rest
+      -- every pair is alike: the rounds are done
+      pub aligned : LowestBelow (OpenAt z marks0 marks1 reach) (pairs z) None → Outcome ⊥ (SameIn t) list₀ list (Result.Ok len)
+      aligned s = steps (λ x. x) len (omega (arith, w.long, w.under)) (record { all = all; rounds = w.joins (take len list) (done refl (λ q y. below (pairs z) s q y (number_in z q (may_inside q y)))) }) w.rest
 
-        -- the pair p that the scan found
-        module _ {end : ℕ} (n : i ≡ end → ⊥) (e : end ≡ pairs z) where
-          pub found_under : i < pairs z
-          found_under = omega (arith, s.most)
+      -- the open pair p
+      module _ {i : ℕ} (s : LowestBelow (OpenAt z marks0 marks1 reach) (pairs z) (Some i)) {p : Pair} (q : p ≡ pair_at z i) where
+        ins : In z p
+        ins = rw q (pair_at_in z i s.0)
 
-          module _ {p : Pair} (q : p ≡ pair_at z i) where
-            ins : In z p
-            ins = rw q (pair_at_in z i found_under)
+        numbered : number z p ≡ i
+        numbered = ap (number z) q ∙ number_pair z i
 
-            numbered : number z p ≡ i
-            numbered = ap (number z) q ∙ number_pair z i
+        lowest : LowestOpen m0 m1 (Ok z) z (take len list) p
+        lowest =
+            let f = s.1 in
+            record {
+              may = may p ins (ap (λ (x : Pair). get_or marks0 x.old false) q ∙ f.mark0) (ap (λ (x : Pair). get_or marks1 x.new false) q ∙ f.mark1);
+              open' = λ a. f.unlike (sym (ap (λ (x : ℕ). get_or reach x 0) numbered) ∙ one_alike p ins a);
+              lower = λ x y l. below i s.2 x y (omega (arith, numbered));
+            }
 
-            lowest : LowestOpen m0 m1 (Ok z) z (take len list) p
-            lowest =
-                let f = s.found found_under in
-                record {
-                  may = may p ins (ap (λ (x : Pair). get_or marks0 x.old false) q ∙ f.mark0) (ap (λ (x : Pair). get_or marks1 x.new false) q ∙ f.mark1);
-                  open' = λ a. f.unlike (sym (ap (λ (x : ℕ). get_or reach x 0) numbered) ∙ one_alike p ins a);
-                  lower = λ x y l. below x y (omega (arith, numbered));
-                }
+        -- what follows is the list of this pair
+        its_list : {l : List ℕ} → Follows z t.old.next t.new.next reach p list len l → ListAfterIn t (after None (take len list)) p l
+        its_list = listed t m.good m.alike p ins
 
-            -- what follows is the list of this pair
-            its_list : {l : List ℕ} → Follows z t.old.next t.new.next reach p list len l → ListAfterIn t (after Prior.Start (take len list)) p l
-            its_list = listed t m.good m.alike p ins
+        -- no room for it: the list of the rounds is no shorter than what is written and this
+        pub no_room : Zero list₀ → {on cleared : List ℕ} {x : Refusal} → Appended (Follows z t.old.next t.new.next reach p list len) len list on (Err x) → length on ≡ length list → Cleared (length on) cleared → Outcome ⊥ (SameIn t) list₀ cleared (Err Refusal.ShortList)
+        no_room o (full part f l) k c =
+            let w' = its_list f in
+            let r = rounds_exist m0 m1 z (inside t m.good) all (take len list ++ part) (each_append (Ok z) (take len list) part w.ok w'.shortest.has.allowed) in
+            short (λ x. x) r.0 (record { all = all; rounds = w.joins r.0 (more p lowest part w' r.1) })
+            (omega (arith, rounds_extend m0 m1 (Ok z) z r.0 (take len list ++ part) r.1, length-append (take len list) part, length-take-le len list w.under, w.long))
+            (zero_unique _ list₀ (c.size ∙ k ∙ w.long) c.zero o)
 
-            -- no room for it: the list of the rounds is no shorter than what is written and this
-            pub no_room : Zero list₀ → {on cleared : List ℕ} {k : ℕ} → Appended (Follows z t.old.next t.new.next reach p list len) len list on (Found.Refused k) → length on ≡ length list → Cleared (length on) cleared → Outcome ⊥ (SameIn t) list₀ cleared (Found.Refused 16)
-            no_room o (full part f l) k c =
-                let w' = its_list f in
-                let r = rounds_exist m0 m1 z (inside t m.good) all (take len list ++ part) (each_append (Ok z) (take len list) part w.ok w'.shortest.has.allowed) in
-                short (λ x. x) r.0 (record { all = all; rounds = w.joins r.0 (more p lowest part w' r.1) })
-                (omega (arith, rounds_extend m0 m1 (Ok z) z r.0 (take len list ++ part) r.1, length-append (take len list) part, length-take-le len list w.under, w.long))
-                (zero_unique _ list₀ (c.size ∙ k ∙ w.long) c.zero o)
+        module _ {on : List ℕ} {k : ℕ} (a : Added (Follows z t.old.next t.new.next reach p list len) len list on k) where
+          pub added_fits : len + k ≤ length on
+          added_fits = omega (arith, a.fits, a.long)
 
-            module _ {on : List ℕ} {k : ℕ} (a : Added (Follows z t.old.next t.new.next reach p list len) len list on k) where
-              pub added_fits : len + k ≤ length on
-              added_fits = omega (arith, a.fits, a.long)
+          listed_part : ListAfterIn t (after None (take len list)) p a.part
+          listed_part = its_list a.sought
 
-              listed_part : ListAfterIn t (after Prior.Start (take len list)) p a.part
-              listed_part = its_list a.sought
+          -- the part of the slice that holds it
+          its_steps : take (len + k - len) (drop len on) ≡ a.part
+          its_steps = let e : len + k - len ≡ k = omega arith in rw e a.slices
 
-              pub part_below : (j : ℕ) → len ≤ j → j < len + k → get_or on j 0 < z.vectors
-              part_below = slice_at (λ v. v < z.vectors) on len (len + k) added_fits (rw a.slices (below_all a.part listed_part.shortest.has.allowed))
+          pub part_below : (j : ℕ) → j < length (take (len + k - len) (drop len on)) → get_or (take (len + k - len) (drop len on)) j 0 < z.vectors
+          part_below = rw its_steps (λ j h. each_at (λ v. v < z.vectors) a.part j (below_all a.part listed_part.shortest.has.allowed) h)
 
-              pub falls : open_pairs z t.old.next t.new.next reach (take (len + k) on) < open_pairs z t.old.next t.new.next reach (take len list)
-              falls = rw (← same_open t reach (take (len + k) on), ← same_open t reach (take len list), a.joins) (unaligned_falls m0 m1 z (inside t m.good) (λ p. eqb (at z reach p) 1) tells (take len list) a.part w.ok p lowest.may lowest.open' listed_part.shortest.has)
+          pub falls : open_pairs t reach (take (len + k) on) < open_pairs t reach (take len list)
+          falls = rw a.joins (unaligned_falls m0 m1 z (inside t m.good) (λ p. eqb (at z reach p) 1) tells (take len list) a.part w.ok p lowest.may lowest.open' listed_part.shortest.has)
 
-              pub aligning_more : {next0 next1 : List Bool} → Successors (λ x. run m0.next x (slice len (len + k) on)) z.old marks0 next0 → Successors (λ x. run m1.next x (slice len (len + k) on)) z.new marks1 next1 → Aligning list₀ on (len + k) next0 next1
-              aligning_more {next0} {next1} i0 i1 = record {
-                long = a.long ∙ w.long;
-                under = added_fits;
-                ok = rw a.joins (each_append (Ok z) (take len list) a.part w.ok listed_part.shortest.has.allowed);
-                after0 = rw a.joins (after_more m0.next z.old (take len list) a.part marks0 next0 (λ s b. run_under leading_old s (take len list) b (below_all (take len list) w.ok)) w.after0 (rw a.slices at i0));
-                after1 = rw a.joins (after_more m1.next z.new (take len list) a.part marks1 next1 (λ s b. run_under leading_new s (take len list) b (below_all (take len list) w.ok)) w.after1 (rw a.slices at i1));
-                joins = rw a.joins (λ r x. w.joins r (more p lowest a.part listed_part x));
-                rest = λ j l. a.rest j l ∙ w.rest j (omega arith);
-              }
+          pub aligning_more : {next0 next1 : List Bool} → Successors (λ x. run m0.next x (take (len + k - len) (drop len on))) z.old marks0 next0 → Successors (λ x. run m1.next x (take (len + k - len) (drop len on))) z.new marks1 next1 → Aligning list₀ on (len + k) next0 next1
+          aligning_more {next0} {next1} i0 i1 = record {
+            long = a.long ∙ w.long;
+            under = added_fits;
+            ok = rw a.joins (each_append (Ok z) (take len list) a.part w.ok listed_part.shortest.has.allowed);
+            after0 = rw a.joins (after_more m0.next z.old (take len list) a.part marks0 next0 (λ s b. run_under leading_old s (take len list) b (below_all (take len list) w.ok)) w.after0 (rw its_steps at i0));
+            after1 = rw a.joins (after_more m1.next z.new (take len list) a.part marks1 next1 (λ s b. run_under leading_new s (take len list) b (below_all (take len list) w.ok)) w.after1 (rw its_steps at i1));
+            joins = rw a.joins (λ r x. w.joins r (more p lowest a.part listed_part x));
+            rest = λ j l. a.rest j l ∙ w.rest j (omega arith);
+          }
 
 -- what was appended
-pub its_part : {Sought : List ℕ → Type 0} {len : ℕ} {list list' : List ℕ} {n : ℕ} → Appended Sought len list list' (Found.Steps n) → Added Sought len list list' n
+pub its_part : {Sought : List ℕ → Type 0} {len : ℕ} {list list' : List ℕ} {n : ℕ} → Appended Sought len list list' (Result.Ok n) → Added Sought len list list' n
 its_part (added n a) = a

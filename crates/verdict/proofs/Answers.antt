@@ -10,7 +10,8 @@ use Rattle.numbers.proofs.Order.{zero_or}
 use Rattle.memory.specs.Meaning.Refusals.{Free, First}
 use Rattle.memory.specs.Meaning.Slices.{Zero}
 use Rattle.memory.proofs.Table.{up_to_16, first_of_lowest}
-use Rattle.machine.specs.declared.Found.{Found}
+use Rattle.std.proofs.Common.{Some, None, Result, Err}
+use Rattle.memory.specs.declared.Refusal.{Refusal}
 use Rattle.machine.specs.declared.Pair.{Pair}
 use Rattle.machine.specs.declared.Sizes.{Sizes}
 use Rattle.machine.specs.Meaning.Machine.{Machine}
@@ -42,24 +43,23 @@ module _ (t : Tables) where
   positive {n} h = ⊎_elim (λ e. absurd (h e)) (λ q. omega (arith, q.1)) (zero_or n)
 
   module _ {depth reach : List ℕ} (m : Mapped t depth reach) where
-    pub alignable-of-some : (p : Pair) → In z p → 0 < at z reach p → AlignableIn t p
-    alignable-of-some p i s = ⊎_elim (λ e. absurd (omega arith)) (λ q. let y = m.both.alike.map.dist p i q.0 q.1 in record { list = y.list; leads = y.leads }) (zero_or (at z reach p))
+    pub alignable_of_some : (p : Pair) → In z p → 0 < at z reach p → AlignableIn t p
+    alignable_of_some p i s = ⊎_elim (λ e. absurd (omega arith)) (λ q. let y = m.both.alike.map.dist p i q.0 q.1 in record { list = y.list; leads = y.leads }) (zero_or (at z reach p))
 
-    pub some-of-alignable : (p : Pair) → In z p → AlignableIn t p → 0 < at z reach p
-    some-of-alignable p i a = ⊎_elim (λ e. absurd (m.both.alike.map.none p i e a.list a.leads)) (λ q. omega (arith, q.1)) (zero_or (at z reach p))
+    pub some_of_alignable : (p : Pair) → In z p → AlignableIn t p → 0 < at z reach p
+    some_of_alignable p i a = ⊎_elim (λ e. absurd (m.both.alike.map.none p i e a.list a.leads)) (λ q. omega (arith, q.1)) (zero_or (at z reach p))
 
-    module _ {i : ℕ} (s : LowestBelow (λ q. get_or reach q 0 ≡ 0) (pairs z) i) where
-      -- the scan stopped at a pair: it is the lowest that is not alignable
-      pub apart_of : {p : Pair} → p ≡ pair_at z i → i < pairs z → LowestApart m0 m1 (Ok z) z p
-      apart_of e h = subst (λ (q : Pair). LowestApart m0 m1 (Ok z) z q) (sym e) (record {
-        inside = pair_at_in z i h;
-        apart = λ a. m.both.alike.map.none _ (pair_at_in z i h) (at_pair z reach i ∙ s.found h) a.list a.leads;
-        lower = λ q b l. alignable-of-some q b (positive (s.below (number z q) (omega (arith, l, number_pair z i))));
-      })
+    -- the map holds 0 for a pair: the lowest such is the lowest that is not alignable
+    pub apart_of : {i : ℕ} {p : Pair} → LowestBelow (λ q. get_or reach q 0 ≡ 0) (pairs z) (Some i) → p ≡ pair_at z i → LowestApart m0 m1 (Ok z) z p
+    apart_of {i} s e = subst (λ (q : Pair). LowestApart m0 m1 (Ok z) z q) (sym e) (record {
+      inside = pair_at_in z i s.0;
+      apart = λ a. m.both.alike.map.none _ (pair_at_in z i s.0) (at_pair z reach i ∙ s.1) a.list a.leads;
+      lower = λ q b l. alignable_of_some q b (positive (s.2 (number z q) (omega (arith, l, number_pair z i))));
+    })
 
-      -- the scan passed all pairs: the map holds 0 for none
-      pub all-reached : pairs z ≤ i → Reached t reach
-      all-reached h = record { good = m.good; room = m.reach_room; alike = m.both.alike; some = λ p b. positive (s.below (number z p) (omega (arith, number_in z p b))) }
+    -- the map holds 0 for none
+    pub all_reached : LowestBelow (λ q. get_or reach q 0 ≡ 0) (pairs z) None → Reached t reach
+    all_reached s = record { good = m.good; room = m.reach_room; alike = m.both.alike; some = λ p b. positive (s (number z p) (number_in z p b)) }
 
   -- 16 applies where the list is longer than the slice, and nothing where it fits
   too_long : {n : ℕ} (l : List ℕ) → VerdictList m0 m1 (Ok z) z l → n < length l → First (ShortList m0 m1 (Ok z) z n) 16
@@ -76,18 +76,18 @@ module _ (t : Tables) where
 
   -- the answers
   module _ (g : Good t) {list list' : List ℕ} (o : Zero list) (e : length list' ≡ length list) where
-    pub settled-apart : {p : Pair} {n : ℕ} → LowestApart m0 m1 (Ok z) z p → Outcome (AlikeIn t p) (TraceIn t p) list list' (Found.Steps n) → Settled t (length list) list' (Verdict.Apart p n)
-    settled-apart {p} w (steps a n f s b) =
+    pub settled_apart : {p : Pair} {n : ℕ} → LowestApart m0 m1 (Ok z) z p → Outcome (AlikeIn t p) (TraceIn t p) list list' (Result.Ok n) → Settled t (length list) list' (Result.Ok (Verdict.Apart p n))
+    settled_apart {p} w (steps a n f s b) =
         let v : IsApart m0 m1 (Ok z) z p (take n list') = record { lowest = w; trace = s } in
         record { keeps = (fitting g list list' n e f (W.apart p v), record { sought = v; fits = omega (arith, e); beyond = λ i h. b i h ∙ o i (omega arith) }) }
 
-    pub settled_same : {n : ℕ} → Outcome ⊥ (SameIn t) list list' (Found.Steps n) → Settled t (length list) list' (Verdict.Same n)
+    pub settled_same : {n : ℕ} → Outcome ⊥ (SameIn t) list list' (Result.Ok n) → Settled t (length list) list' (Result.Ok (Verdict.Same n))
     settled_same (steps a n f s b) = record { keeps = (fitting g list list' n e f (W.same s), record { sought = s; fits = omega (arith, e); beyond = λ i h. b i h ∙ o i (omega arith) }) }
 
-  pub settled-no-trace : {list list' : List ℕ} {p : Pair} {n : ℕ} → Zero list → LowestApart m0 m1 (Ok z) z p → Outcome (AlikeIn t p) (TraceIn t p) list list' (Found.Refused n) → Settled t (length list) list' (Verdict.Refused 16)
-  settled-no-trace {p = p} o w (missing a q) = absurd (w.apart (alike_alignable m0 m1 _ p a))
-  settled-no-trace {p = p} o w (E.short a l s h q) = record { keeps = (too_long l (W.apart p (record { lowest = w; trace = s })) h, rw q o) }
+  pub settled_no_trace : {list list' : List ℕ} {p : Pair} {x : Refusal} → Zero list → LowestApart m0 m1 (Ok z) z p → Outcome (AlikeIn t p) (TraceIn t p) list list' (Err x) → Settled t (length list) list' (Err x)
+  settled_no_trace {p = p} o w (missing a q) = absurd (w.apart (alike_alignable m0 m1 _ p a))
+  settled_no_trace {p = p} o w (E.short a l s h q) = record { keeps = (too_long l (W.apart p (record { lowest = w; trace = s })) h, rw q o) }
 
-  pub settled-no-list : {list list' : List ℕ} {n : ℕ} → Zero list → Outcome ⊥ (SameIn t) list list' (Found.Refused n) → Settled t (length list) list' (Verdict.Refused 16)
-  settled-no-list o (missing a q) = absurd a
-  settled-no-list o (E.short a l s h q) = record { keeps = (too_long l (W.same s) h, rw q o) }
+  pub settled_no_list : {list list' : List ℕ} {x : Refusal} → Zero list → Outcome ⊥ (SameIn t) list list' (Err x) → Settled t (length list) list' (Err x)
+  settled_no_list o (missing a q) = absurd a
+  settled_no_list o (E.short a l s h q) = record { keeps = (too_long l (W.same s) h, rw q o) }

@@ -6,7 +6,7 @@ use mathlib.Core.Logic.{◌⊎◌, inl, inr, ⊎_elim}
 use mathlib.Core.List.{List}
 use native.Mathlib.Omega.{arith}
 use Rattle.memory.specs.Meaning.Orders.{table_order}
-use Rattle.memory.specs.Meaning.Refusals.{Free, Reply, answer, refusal, Right}
+use Rattle.memory.specs.Meaning.Refusals.{Free, Reply, answer, refusal, reply_of, Right}
 use Rattle.memory.specs.Meaning.Slices.{Zero}
 use Rattle.memory.specs.Working.Lowest.{Numbered, Lowest, place_in}
 use Rattle.memory.proofs.Refusals.{lowest_before}
@@ -22,19 +22,21 @@ use Rattle.machine.proofs.Allowed.{ones_allow_all}
 use Rattle.machine.proofs.Sets.{all_agree, agree_back, same_over, apart_over, written_over, alike_counts_over, alignable_counts_over}
 use Rattle.table_faults.proofs.Refusals.{tables_among, before_20}
 use Rattle.verdict.specs.declared.Judged.{Judged}
-use Rattle.verdict.specs.Meaning.Decision.{Decision, same, apart, verdict_reply, Decided, CountsBeside, ShortList, short}
+use Rattle.verdict.specs.declared.Verdict.{Verdict}
+use Rattle.verdict.specs.declared.Verdict.TheVariants.{Same, Apart}
+use Rattle.verdict.specs.Meaning.Decision.{Decided, CountsBeside, ShortList, short}
 use Rattle.verdict.specs.Meaning.Promise.{JudgeFault, Judges}
 
 -- what is decided over one of two sets that agree is decided over the other
 module _ (m0 m1 : Machine) {X Y : ℕ → Type 0} (e : Agree X Y) (z : Sizes) where
-  pub decided_over : (l : List ℕ) (x : Decision) → Decided m0 m1 X z l x → Decided m0 m1 Y z l x
-  decided_over l (same n) w = record { sought = same_over m0 m1 e z _ w.sought; fits = w.fits; beyond = w.beyond }
-  decided_over l (apart p n) w = record { sought = apart_over m0 m1 e z p _ w.sought; fits = w.fits; beyond = w.beyond }
+  pub decided_over : (l : List ℕ) (x : Verdict) → Decided m0 m1 X z l x → Decided m0 m1 Y z l x
+  decided_over l (Same n) w = record { sought = same_over m0 m1 e z _ w.sought; fits = w.fits; beyond = w.beyond }
+  decided_over l (Apart p n) w = record { sought = apart_over m0 m1 e z p _ w.sought; fits = w.fits; beyond = w.beyond }
 
   pub short_over : {n k : ℕ} → ShortList m0 m1 X z n k → ShortList m0 m1 Y z n k
   short_over (short l w h) = short l (written_over m0 m1 e z l w) h
 
-  pub counts_over : (x : Reply Decision) (n k : ℕ) → CountsBeside m0 m1 X z x n k → CountsBeside m0 m1 Y z x n k
+  pub counts_over : (x : Reply Verdict) (n k : ℕ) → CountsBeside m0 m1 X z x n k → CountsBeside m0 m1 Y z x n k
   counts_over (answer x) n k c = record { alike = alike_counts_over m0 m1 e z c.alike; alignable = alignable_counts_over m0 m1 e z c.alignable }
   counts_over (refusal m) n k c = c
 
@@ -45,9 +47,9 @@ module _ (t : Tables) where
     list : {n : ℕ} → ShortList (old_machine t) (new_machine t) (Below t.sizes) t.sizes s.written n → JudgeFaultBefore s n
 
   pub record JudgesBefore (s : Lent) (e : Left) (r : Judged) : Type 0 where
-    pub keeps : Right (Free (JudgeFaultBefore s)) (Lowest (JudgeFaultBefore s)) (Decided (old_machine t) (new_machine t) (Below t.sizes) t.sizes e.written) (Zero e.written) (verdict_reply r.verdict)
+    pub keeps : Right (Free (JudgeFaultBefore s)) (Lowest (JudgeFaultBefore s)) (Decided (old_machine t) (new_machine t) (Below t.sizes) t.sizes e.written) (Zero e.written) (reply_of r.verdict)
     pub tidy : Tidy s e
-    pub counts : CountsBeside (old_machine t) (new_machine t) (Below t.sizes) t.sizes (verdict_reply r.verdict) r.alike r.alignable
+    pub counts : CountsBeside (old_machine t) (new_machine t) (Below t.sizes) t.sizes (reply_of r.verdict) r.alike r.alignable
 
 module _ (t : Tables) (all : t.sizes.allowed ≡ every_vector t.sizes.vectors) where
   abbrev m0 : Machine
@@ -78,7 +80,7 @@ module _ (t : Tables) (all : t.sizes.allowed ≡ every_vector t.sizes.vectors) w
   pub judges_before : (s : Lent) (e : Left) (r : Judged) → Judges t s e r → JudgesBefore t s e r
   judges_before s e r w = record {
     keeps = lowest_before (former_numbered s) (now s) (former s) (Decided m0 m1 (Ok t.sizes) t.sizes e.written) (Decided m0 m1 (Below t.sizes) t.sizes e.written) (Zero e.written)
-        (decided_over m0 m1 agree t.sizes e.written) (verdict_reply r.verdict) w.keeps;
+        (decided_over m0 m1 agree t.sizes e.written) (reply_of r.verdict) w.keeps;
     tidy = w.tidy;
-    counts = counts_over m0 m1 agree t.sizes (verdict_reply r.verdict) r.alike r.alignable w.counts;
+    counts = counts_over m0 m1 agree t.sizes (reply_of r.verdict) r.alike r.alignable w.counts;
   }

@@ -6,7 +6,7 @@ use Prim.Native.Nat.{ℕ, ◌≤◌, min}
 use native.Mathlib.Omega.{arith}
 use lib.ListN.{length}
 use Rattle.memory.specs.Meaning.Orders.{table_order}
-use Rattle.memory.specs.Meaning.Refusals.{Free, Keeps, FirstOrNone}
+use Rattle.memory.specs.Meaning.Refusals.{number_of, Free, First, Keeps, reply_of}
 use Rattle.memory.specs.Meaning.Slices.{Zero, Cleared}
 use Rattle.memory.specs.Working.Lowest.{place_in}
 use Rattle.memory.proofs.Places.{place_last}
@@ -18,9 +18,11 @@ use Rattle.places.specs.Working.{Good}
 use Rattle.seek.specs.Working.Steps.{Both, MapCounts}
 use Rattle.table_faults.proofs.Refusals.{vectors_place}
 use Rattle.seek.proofs.Accepted.{good, room_enough}
+use Rattle.std.proofs.Common.{Result, Err}
+use Rattle.memory.specs.declared.Refusal.{Refusal}
 use Rattle.verdict.specs.declared.Verdict.{Verdict}
 use Rattle.verdict.specs.declared.Judged.{Judged}
-use Rattle.verdict.specs.Meaning.Decision.{verdict_reply, Decided, CountsBeside, ShortList, short}
+use Rattle.verdict.specs.Meaning.Decision.{Decided, CountsBeside, ShortList, short}
 use Rattle.verdict.specs.Meaning.Promise.{JudgeFault, call, list, Judges}
 use Rattle.verdict.specs.Working.Deciding.{Mapped, Settled, Beside, WithCounts}
 use Rattle.verdict.proofs.Tallies.{map_counts}
@@ -48,40 +50,40 @@ module _ (t : Tables) (s : Lent) where
   above f (short l w h) = omega (arith, vectors_place f, place_last 16 (omega arith) (omega arith))
 
   -- what is kept beside the verdict v, with the list slice left as l
-  abbrev KeptBy : List ℕ → Verdict → Type 0
-  KeptBy l v = Keeps (JudgeFault t s) (Decided (old_machine t) (new_machine t) (Ok t.sizes) t.sizes l) (Zero l) (verdict_reply v)
+  abbrev KeptBy : List ℕ → Result Verdict Refusal → Type 0
+  KeptBy l v = Keeps (JudgeFault t s) (Decided (old_machine t) (new_machine t) (Ok t.sizes) t.sizes l) (Zero l) (reply_of v)
 
-  abbrev Counted : Verdict → Judged → Type 0
-  Counted v r = CountsBeside (old_machine t) (new_machine t) (Ok t.sizes) t.sizes (verdict_reply v) r.alike r.alignable
+  abbrev Counted : Result Verdict Refusal → Judged → Type 0
+  Counted v r = CountsBeside (old_machine t) (new_machine t) (Ok t.sizes) t.sizes (reply_of v) r.alike r.alignable
 
-  pub judged_refused : {depth reach written : List ℕ} {n : ℕ} {r : Judged} → (n ≡ 0 → ⊥) → FirstOrNone Room n → Cleared s.depth depth → Cleared s.reach reach → Cleared s.written written → Beside (Verdict.Refused n) 0 0 r → Judges t s (left_of depth reach written) r
-  judged_refused {written = written} {n} z l a b c w = record {
+  pub judged_refused : {depth reach written : List ℕ} {x : Refusal} {r : Judged} → First Room (number_of x) → Cleared s.depth depth → Cleared s.reach reach → Cleared s.written written → Beside (Err x) 0 0 r
+      → Judges t s (left_of depth reach written) r
+  judged_refused {written = written} {x} f a b c w = record {
     keeps = rw w.verdict kept;
     tidy = record { depth = a; reach = b; written = c.size };
     counts = rw w.verdict (w.alike, w.alignable);
   }
     where
-      kept : KeptBy written (Verdict.Refused n)
-      kept = let f = l.some z in (first_then (λ m x. call x) f (λ m x. ⊎_elim inl (λ y. inr (above f.applies y)) (either m x)), c.zero)
+      kept : KeptBy written (Err x)
+      kept = (first_then (λ m y. call y) f (λ m y. ⊎_elim inl (λ l. inr (above f.applies l)) (either m y)), c.zero)
 
   -- the counts of the maps, which a refusal leaves out
-  counted : {depth reach : List ℕ} {n k : ℕ} (r : Judged) (v : Verdict) → Mapped t depth reach → MapCounts t.sizes depth reach n k → WithCounts n k v r → (r.verdict ≡ v) × Counted v r
-  counted r (Verdict.Same i) m c w = (w.verdict, rw (w.alike, w.alignable) (map_counts m c))
-  counted r (Verdict.Apart p i) m c w = (w.verdict, rw (w.alike, w.alignable) (map_counts m c))
-  counted r (Verdict.Refused i) m c w = (w.verdict, (w.alike, w.alignable))
+  counted : {depth reach : List ℕ} {n k : ℕ} (r : Judged) (v : Result Verdict Refusal) → Mapped t depth reach → MapCounts t.sizes depth reach n k → WithCounts n k v r → (r.verdict ≡ v) × Counted v r
+  counted r (Result.Ok v) m c w = (w.verdict, rw (w.alike, w.alignable) (map_counts m c))
+  counted r (Err x) m c w = (w.verdict, (w.alike, w.alignable))
 
   module _ (none : Free Room) where
-    settled : {written : List ℕ} {w : ℕ} (v : Verdict) → Settled t w written v → w ≡ s.written → KeptBy written v
-    settled {written} v k e = keeps_second Room Short (JudgeFault t s) (λ m x. call x) (λ m x. list x) either (Decided (old_machine t) (new_machine t) (Ok t.sizes) t.sizes written) (Zero written) none (verdict_reply v) (rw e at k.keeps)
+    settled : {written : List ℕ} {w : ℕ} (v : Result Verdict Refusal) → Settled t w written v → w ≡ s.written → KeptBy written v
+    settled {written} v k e = keeps_second Room Short (JudgeFault t s) (λ m x. call x) (λ m x. list x) either (Decided (old_machine t) (new_machine t) (Ok t.sizes) t.sizes written) (Zero written) none (reply_of v) (rw e at k.keeps)
 
     -- depth₀ and reach₀ are the maps, of which reach₀ may have made way for the trace's before all is cleared
-    pub judged : {depth₀ reach₀ depth reach written : List ℕ} {r : Judged} {n k b w : ℕ} (v : Verdict) → Settled t w written v
+    pub judged : {depth₀ reach₀ depth reach written : List ℕ} {r : Judged} {n k w : ℕ} (v : Result Verdict Refusal) → Settled t w written v
         → Both t depth₀ reach₀ → MapCounts t.sizes depth₀ reach₀ n k → WithCounts n k v r → length depth₀ ≡ s.depth → length reach₀ ≡ s.reach
-        → Cleared (length depth₀) depth → Cleared b reach → b ≡ length reach₀ → w ≡ s.written → length written ≡ w → Judges t s (left_of depth reach written) r
-    judged {r = r} v k m c w ed er x y eb ew e =
+        → Cleared s.depth depth → Cleared s.reach reach → w ≡ s.written → length written ≡ w → Judges t s (left_of depth reach written) r
+    judged {r = r} v k m c w ed er x y ew e =
         let h = counted r v (mapped none ed er m) c w in
         record {
           keeps = rw h.0 (settled v k ew);
-          tidy = record { depth = rw ed at x; reach = rw (eb ∙ er) at y; written = e ∙ ew };
+          tidy = record { depth = x; reach = y; written = e ∙ ew };
           counts = rw h.0 h.1;
         }

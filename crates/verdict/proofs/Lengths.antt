@@ -18,19 +18,20 @@ use Rattle.machine.specs.Meaning.Verdict as W
 use Rattle.machine.specs.Meaning.Bounds.{most_trace, most_list, trace_room, verdict_room, Bounded}
 use Rattle.machine.proofs.Bounds.{tables_bounded, tables_trace_room, tables_verdict_room}
 use Rattle.table_faults.proofs.Refusals.{vectors_place}
+use Rattle.std.proofs.Common.{Result, Err}
+use Rattle.memory.specs.declared.Refusal.{Refusal}
 use Rattle.verdict.specs.declared.Verdict.{Verdict}
 use Rattle.verdict.specs.declared.Judged.{Judged}
 use Rattle.verdict.specs.Meaning.Decision.{Decided, ShortList, short}
-use Rattle.verdict.specs.Meaning.Decision as D
 use Rattle.verdict.specs.Meaning.Promise.{JudgeFault, call, list, Judges}
 
 -- two machines
 module _ {m0 m1 : Machine} {Ok : ℕ → Type 0} {z : Sizes} (b : Bounded m0 m1 Ok z) where
   -- what is decided
-  pub same_most : (l : List ℕ) (n : ℕ) → Decided m0 m1 Ok z l (D.same n) → n ≤ most_list z
+  pub same_most : (l : List ℕ) (n : ℕ) → Decided m0 m1 Ok z l (Verdict.Same n) → n ≤ most_list z
   same_most l n d = omega (arith, b.steps (take n l) d.sought, length-take-le n l d.fits)
 
-  pub apart_most : (l : List ℕ) (p : Pair) (n : ℕ) → Decided m0 m1 Ok z l (D.apart p n) → n ≤ most_trace z
+  pub apart_most : (l : List ℕ) (p : Pair) (n : ℕ) → Decided m0 m1 Ok z l (Verdict.Apart p n) → n ≤ most_trace z
   apart_most l p n d = omega (arith, b.traces p (take n l) d.sought.lowest.inside d.sought.trace, length-take-le n l d.fits)
 
   -- a list slice of n bytes: where any trace fits it, 16 is of the list of Same
@@ -77,14 +78,14 @@ module _ (t : Tables) (s : Lent) where
 
   module _ {e : Left} {r : Judged} (j : Judges t s e r) where
     -- "A verdict's list takes .. at most (S0 + S1 − 1) × (S0 × S1 − 1) steps": of what `judge` answers
-    pub same_few : (n : ℕ) → r.verdict ≡ Verdict.Same n → n ≤ most_list z
+    pub same_few : (n : ℕ) → r.verdict ≡ Result.Ok (Verdict.Same n) → n ≤ most_list z
     same_few n is = let k = rw is at j.keeps in same_most (tables_bounded t (λ f. k.0 13 (call (VectorsFault.tables f)))) e.written n k.1
 
     -- "No trace is longer than S0 + S1 − 1"
-    pub apart_few : (p : Pair) (n : ℕ) → r.verdict ≡ Verdict.Apart p n → n ≤ most_trace z
+    pub apart_few : (p : Pair) (n : ℕ) → r.verdict ≡ Result.Ok (Verdict.Apart p n) → n ≤ most_trace z
     apart_few p n is = let k = rw is at j.keeps in apart_most (tables_bounded t (λ f. k.0 13 (call (VectorsFault.tables f)))) e.written p n k.1
 
-    module _ (is : r.verdict ≡ Verdict.Refused 16) where
+    module _ (is : r.verdict ≡ Err Refusal.ShortList) where
       refused : None × ShortList m0 m1 (Ok z) z s.written 16
       refused = short_16 (rw is at j.keeps).0
 

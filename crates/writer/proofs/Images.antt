@@ -19,12 +19,9 @@ use Rattle.format.specs.Meaning.Format.{version_in, inputs_in, latches_in, outpu
 use Rattle.format.specs.Meaning.Version.{version_of}
 use Rattle.reader.proofs.Spelling.{field_append, bit_of_lem, bit_in, same_bytes}
 use Rattle.packing.specs.Working.{joined, header_word, cell_word, tail_net}
-use Rattle.writer.specs.Working.Words.{word_bit}
+use Rattle.packing.specs.declared.words.Words.{Words}
+use Rattle.writer.specs.Working.Words.{word_bit, words_bit}
 use Rattle.packing.proofs.Tails.{net_of, Place, at_latch, at_output, place}
-
--- the bits of byte k of the words that two lists hold
-abbrev pub bits : ℕ → List ℕ → List ℕ → ℕ → ℕ → ℕ → ℕ → ℕ
-bits h c t g n k j = word_bit h (λ i. get_or c i 0) (λ i. get_or t i 0) g n (8 * k + j)
 
 cond_lt : (t : Bool) (a b : ℕ) → a < 2 → b < 2 → cond t a b < 2
 cond_lt true a b p q = p
@@ -36,6 +33,9 @@ word_lt h c t g n i =
     cond_lt (ltb i header_bits) _ _ (mod-lt _ (lit< tt))
     (cond_lt (ltb i (cell_at g)) _ _ (mod-lt _ (lit< tt))
     (cond_lt (ltb i (cell_at g + net_bits * n)) _ _ (mod-lt _ (lit< tt)) (lit< tt)))
+
+pub words_bit_lt : (w : Words) (i : ℕ) → words_bit w i < 2
+words_bit_lt w i = word_lt w.header (λ k. get_or w.cells k 0) (λ t. get_or w.tail t 0) w.count w.tails i
 
 -- the header, the nets behind the cells and the bits of the image of d
 abbrev pub header_of : Design → ℕ

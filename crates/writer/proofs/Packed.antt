@@ -20,18 +20,19 @@ use Rattle.netlist.specs.Working.Sound.{Sound}
 use Rattle.reader.specs.Meaning.Fields.{bit_at}
 use Rattle.format.specs.Meaning.Format.{cell_at, bits_of, bytes_of, Encodes}
 use Rattle.writer.specs.Meaning.Writing.{AreBytes, HoldsImage}
+use Rattle.packing.specs.declared.words.Words.{Words}
 use Rattle.packing.specs.Working.{cell_word, Packs}
-use Rattle.writer.specs.Working.Words.{word_bit, word_byte}
-use Rattle.writer.proofs.Images.{word_lt, header_of, tails_of, tail_of, image_bit}
+use Rattle.writer.specs.Working.Words.{word_bit, words_bit, words_byte}
+use Rattle.writer.proofs.Images.{word_lt, words_bit_lt, header_of, tails_of, tail_of, image_bit}
 use Rattle.writer.proofs.Encoding.{encodes}
 
 -- words that a design was packed into give its bits
-word_same : (d : Design) (h : ℕ) (c t : List ℕ) → Packs d h c t → (i : ℕ) → word_bit h (λ k. get_or c k 0) (λ k. get_or t k 0) d.count (tails_of d) i ≡ image_bit d i
+word_same : (d : Design) (w : Words) → Packs d w → (i : ℕ) → words_bit w i ≡ image_bit d i
 unfolding word_bit
-word_same d h c t p i = go (dec_lt i header_bits) (dec_lt i (cell_at d.count)) (dec_lt i (bits_of d))
+word_same d w p i = rw (p.count, p.tails) (go (dec_lt i header_bits) (dec_lt i (cell_at d.count)) (dec_lt i (bits_of d)))
   where
     go : Dec (i < header_bits) → Dec (i < cell_at d.count) → Dec (i < bits_of d)
-        → word_bit h (λ k. get_or c k 0) (λ k. get_or t k 0) d.count (tails_of d) i ≡ image_bit d i
+        → word_bit w.header (λ k. get_or w.cells k 0) (λ k. get_or w.tail k 0) d.count (tails_of d) i ≡ image_bit d i
     go (yes x) y z = simp (lt-ltb i header_bits x) (rw p.head)
     go (no x) (yes y) z =
         let e = p.words.front ((i - header_bits) / cell_bits) (omega arith) in
@@ -75,31 +76,21 @@ module _ (d : Design) (w : Sound d) where
   image_bytes = are_bytes (image_bit d) image_bit_lt (image_of d) in_image
 
 -- a slice that is filled with the bytes of these words holds the image
-module _ (d : Design) (w : Sound d) (h : ℕ) (c t : List ℕ) (p : Packs d h c t) (m : ℕ) (l : List ℕ) (room : bytes_of d ≤ m)
-    (f : Filled (word_byte h (λ k. get_or c k 0) (λ k. get_or t k 0) d.count (tails_of d)) 0 m (bytes_of d) l) where
+module _ (d : Design) (s : Sound d) (w : Words) (p : Packs d w) (m : ℕ) (l : List ℕ) (room : bytes_of d ≤ m) (f : Filled (words_byte w) 0 m (bytes_of d) l) where
   front : length (take (bytes_of d) l) ≡ bytes_of d
   front = length-take-le (bytes_of d) l (omega (arith, f.size))
 
-  bit : ℕ → ℕ
-  bit = word_bit h (λ k. get_or c k 0) (λ k. get_or t k 0) d.count (tails_of d)
-
-  bit_lt : (i : ℕ) → bit i < 2
-  unfolding bit
-  bit_lt i = word_lt h (λ k. get_or c k 0) (λ k. get_or t k 0) d.count (tails_of d) i
-
-  in_front : (k : ℕ) → k < length (take (bytes_of d) l) → get_or (take (bytes_of d) l) k 0 ≡ horner (λ j. bit (8 * k + j)) 8
-  unfolding bit
+  in_front : (k : ℕ) → k < length (take (bytes_of d) l) → get_or (take (bytes_of d) l) k 0 ≡ words_byte w k
   in_front k q =
       let r : k < bytes_of d = omega (arith, front) in
       get_or-take (bytes_of d) l k 0 r ∙ f.front k r
 
   bits_in_lem : (i : ℕ) → i < 8 * length (take (bytes_of d) l) → bit_at (take (bytes_of d) l) i ≡ image_bit d i
-  unfolding bit
-  bits_in_lem i q = bits_of_lem bit bit_lt (take (bytes_of d) l) in_front i q ∙ word_same d h c t p i
+  bits_in_lem i q = bits_of_lem (words_bit w) (words_bit_lt w) (take (bytes_of d) l) in_front i q ∙ word_same d w p i
 
   pub holds_image : HoldsImage d l (bytes_of d)
-  holds_image = record { bytes = refl; image = encodes d w (take (bytes_of d) l) front bits_in_lem; beyond = f.rest; each = λ k. each k (dec_lt k (bytes_of d)) }
+  holds_image = record { bytes = refl; image = encodes d s (take (bytes_of d) l) front bits_in_lem; beyond = f.rest; each = λ k. each k (dec_lt k (bytes_of d)) }
     where
       each : (k : ℕ) → Dec (k < bytes_of d) → get_or l k 0 < 256
-      each k (yes q) = rw (← get_or-take (bytes_of d) l k 0 q) (are_bytes bit bit_lt (take (bytes_of d) l) in_front k)
+      each k (yes q) = rw (← get_or-take (bytes_of d) l k 0 q) (are_bytes (words_bit w) (words_bit_lt w) (take (bytes_of d) l) in_front k)
       each k (no q) = rw (f.rest k (omega arith)) (lit< tt)

@@ -8,14 +8,14 @@ use native.Mathlib.Decide.{dec_lt}
 use lib.Dec.{lit<}
 use lib.ListN.{length, get_or, take, length-take, get_or-eq_default}
 use lib.Seq.{get_or-take}
-use Rattle.memory.specs.Meaning.Refusals.{Free, Keeps}
+use Rattle.std.proofs.Common.{Result, Ok, Err}
+use Rattle.memory.specs.declared.Refusal.{Refusal}
+use Rattle.memory.specs.Meaning.Refusals.{number_of, reply_of, Free, Keeps}
 use Rattle.memory.specs.Meaning.Slices.{Zero}
 use Rattle.netlist.specs.declared.Design.{Design}
 use Rattle.netlist.specs.Meaning.Gates.{kind_of, first_of, second_of}
 use Rattle.netlist.specs.Meaning.Faults.{Accepted, SameDesign}
 use Rattle.netlist.proofs.Same.{same_sym}
-use Rattle.image.specs.declared.Answer.{Answer}
-use Rattle.image.specs.declared.Answer.TheVariants as Answer·variants
 use Rattle.image.specs.declared.Reading.{Reading}
 use Rattle.format.specs.Meaning.Format.{decoded, bits_of, bytes_of, Encodes}
 use Rattle.format.specs.Meaning.Version.{version_of}
@@ -23,9 +23,7 @@ use Rattle.format.specs.Meaning.Faults.{ImageFault}
 use Rattle.format.proofs.Versions.{one_version, version_1, version_cases_of}
 use Rattle.image.specs.Meaning.Reading.{ReadsImage, read_reply, empty_design}
 use Rattle.image.proofs.Accepted.{image_encodes, image_accepted, spelled, clean}
-use Rattle.writer.specs.declared.Written.{Written}
-use Rattle.writer.specs.declared.Written.TheVariants.{Bytes, Refused}
-use Rattle.writer.specs.Meaning.Writing.{WriteFault, write_reply, AreBytes, HoldsImage, Writes}
+use Rattle.writer.specs.Meaning.Writing.{WriteFault, AreBytes, HoldsImage, Writes}
 use Rattle.writer.proofs.Images.{one_image}
 use Rattle.writer.proofs.Refusals.{none}
 
@@ -41,12 +39,12 @@ front_bytes n l h k = go (dec_lt k n)
     go (no q) = rw (past (omega (arith, length-take n l))) (lit< tt)
 
 -- an image that is read encodes the design that is returned
-pub read_encodes : (b : List ℕ) (d : Design) → ReadsImage b (record { answer = Answer·variants.Accepted; design = d }) → Encodes d b
+pub read_encodes : (b : List ℕ) (d : Design) → ReadsImage b (record { answer = Ok tt; design = d }) → Encodes d b
 read_encodes b d r = rw r.keeps.1 (image_encodes b r.keeps.0)
 
 -- "Reading an accepted image and writing it again yields those bytes"
-pub read_write : (b : List ℕ) (d : Design) → ReadsImage b (record { answer = Answer·variants.Accepted; design = d }) → AreBytes b
-    → (n : ℕ) (w : Written) (l : List ℕ) → Writes d n w l → length b ≤ n → (w ≡ Bytes (length b)) × (take (length b) l ≡ b)
+pub read_write : (b : List ℕ) (d : Design) → ReadsImage b (record { answer = Ok tt; design = d }) → AreBytes b
+    → (n : ℕ) (w : Result ℕ Refusal) (l : List ℕ) → Writes d n w l → length b ≤ n → (w ≡ Ok (length b)) × (take (length b) l ≡ b)
 read_write b d r p n w l h room = go w h.keeps
   where
     e : Encodes d b
@@ -58,15 +56,15 @@ read_write b d r p n w l h room = go w h.keeps
     free : Free (WriteFault d n)
     free = none d n a (omega (arith, e.size))
 
-    go : (w : Written) → Keeps (WriteFault d n) (HoldsImage d l) (Zero l) (write_reply w) → (w ≡ Bytes (length b)) × (take (length b) l ≡ b)
-    go (Bytes k) (f, i) =
+    go : (w : Result ℕ Refusal) → Keeps (WriteFault d n) (HoldsImage d l) (Zero l) (reply_of w) → (w ≡ Ok (length b)) × (take (length b) l ≡ b)
+    go (Ok k) (f, i) =
         let s : k ≡ length b = i.bytes ∙ sym e.size in
-        (ap Bytes s, rw (← s) (one_image d (take k l) b i.image e (front_bytes k l i.each) p))
-    go (Refused k) (m, z) = absurd (free k m.applies)
+        (ap Ok s, rw (← s) (one_image d (take k l) b i.image e (front_bytes k l i.each) p))
+    go (Err k) (m, z) = absurd (free (number_of k) m.applies)
 
 -- "writing an accepted design and reading it yields that design"
-pub write_read : (d : Design) (n k : ℕ) (l : List ℕ) → Writes d n (Bytes k) l → (r : Reading) → ReadsImage (take k l) r
-    → (r.answer ≡ Answer·variants.Accepted) × SameDesign d r.design
+pub write_read : (d : Design) (n k : ℕ) (l : List ℕ) → Writes d n (Ok k) l → (r : Reading) → ReadsImage (take k l) r
+    → (r.answer ≡ Ok tt) × SameDesign d r.design
 write_read d n k l h r w = go r.answer r.design w.keeps
   where
     a : Accepted d
@@ -75,17 +73,17 @@ write_read d n k l h r w = go r.answer r.design w.keeps
     e : Encodes d (take k l)
     e = h.keeps.1.image
 
-    go : (x : Answer) (c : Design) → Keeps (ImageFault (take k l)) (λ c. c ≡ decoded (take k l)) (r.design ≡ empty_design) (read_reply x c) → (x ≡ Answer·variants.Accepted) × SameDesign d c
-    go Answer·variants.Accepted c (f, i) = (refl, rw i (spelled (take k l) d e a))
-    go (Answer·variants.Refused m) c (f, z) = absurd (clean (take k l) d e a m f.applies)
+    go : (x : Result (Unit {0}) Refusal) (c : Design) → Keeps (ImageFault (take k l)) (λ c. c ≡ decoded (take k l)) (r.design ≡ empty_design) (read_reply x c) → (x ≡ Ok tt) × SameDesign d c
+    go (Ok _) c (f, i) = (refl, rw i (spelled (take k l) d e a))
+    go (Err m) c (f, z) = absurd (clean (take k l) d e a (number_of m) f.applies)
 
 -- an accepted design is written where there is room for it
-pub writes : (d : Design) → Accepted d → (n : ℕ) (w : Written) (l : List ℕ) → Writes d n w l → bytes_of d ≤ n → w ≡ Bytes (bytes_of d)
+pub writes : (d : Design) → Accepted d → (n : ℕ) (w : Result ℕ Refusal) (l : List ℕ) → Writes d n w l → bytes_of d ≤ n → w ≡ Ok (bytes_of d)
 writes d a n w l h room = go w h.keeps
   where
-    go : (w : Written) → Keeps (WriteFault d n) (HoldsImage d l) (Zero l) (write_reply w) → w ≡ Bytes (bytes_of d)
-    go (Bytes k) (f, i) = ap Bytes i.bytes
-    go (Refused k) (m, z) = absurd (none d n a room k m.applies)
+    go : (w : Result ℕ Refusal) → Keeps (WriteFault d n) (HoldsImage d l) (Zero l) (reply_of w) → w ≡ Ok (bytes_of d)
+    go (Ok k) (f, i) = ap Ok i.bytes
+    go (Err k) (m, z) = absurd (none d n a room (number_of k) m.applies)
 
 -- entries beyond the sizes change neither the version nor the image
 one_carried : (d c : Design) → SameDesign d c → version_of d ≡ 1 → version_of c ≡ 1

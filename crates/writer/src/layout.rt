@@ -1,20 +1,19 @@
 // The image of a design, byte by byte.
-ghost use Rattle.std.specs.Prelude.{◌≡◌, ◌+◌, ◌<◌, ◌≤◌, length, get_or};
+ghost use Rattle.std.specs.Prelude.{◌≡◌, ◌+◌, ◌<◌, ◌≤◌, length};
 ghost use Rattle.numbers.specs.Meaning.Bits.{bit_of};
 ghost use Rattle.memory.specs.Meaning.Slices.{Zero};
 ghost use Rattle.netlist.specs.Working.Sound.{Sound};
-ghost use Rattle.limits.specs.Meaning.Limits.{most_cells};
 ghost use Rattle.limits.specs.Meaning.Layout.{most_bytes};
-ghost use Rattle.limits.specs.Working.Tails.{most_tails};
 ghost use Rattle.format.specs.Meaning.Format.{bytes_of};
 ghost use Rattle.writer.specs.Meaning.Writing.{HoldsImage};
 ghost use Rattle.packing.specs.Working.{Heads};
-ghost use Rattle.writer.specs.Working.Words.{word_bit, word_byte};
+ghost use Rattle.writer.specs.Working.Words.{words_bit, words_byte};
 
-use format::fields::Header;
-use format::{fields, version};
+use format::header::Header;
+use format::version;
 use limits::Image;
 use netlist::Design;
+use packing::words::Words;
 
 // The header of the image of a design.
 pub(crate) fn header(d: Design) -> Header
@@ -23,89 +22,63 @@ pub(crate) fn header(d: Design) -> Header
 {
     Header {
         version: version::version_of(d),
-        inputs: d.inputs as u16,
-        latches: d.latches as u16,
-        outputs: d.outputs as u16,
+        inputs: u16::from(d.inputs),
+        latches: u16::from(d.latches),
+        outputs: u16::from(d.outputs),
         count: d.count,
     }
 }
 
 // Writes the image of a design into a cleared slice.
 pub(crate) fn put(d: Design, h: Header, bytes: usize, image: &mut [u8])
-    requires { (Sound d) × (Heads d h) × (bytes ≡ bytes_of d) × (bytes ≤ length image.old) × (Zero image.old) }
+    requires sound { Sound d }
+    requires heads { Heads d h }
+    requires bytes { bytes ≡ bytes_of d }
+    requires room { bytes ≤ length image.old }
+    requires zero { Zero image.old }
     ensures { (length image.new ≡ length image.old) × (HoldsImage d image.new bytes) }
 {
     let words = packing::words_of(d, h);
-    let cells = words.cells;
-    let tail = words.tail;
-    let count = d.count as usize;
-    let tails = fields::tails(h);
-    let mut k = 0;
-    while k < bytes {
-        image[k] = byte_at(words.header, &cells, &tail, count, tails, k);
-        k += 1;
+    for k in 0..bytes {
+        image[k] = byte_at(&words, k);
     }
 }
 
-// Byte k of an image of `count` cells and `tails` nets behind them.
-fn byte_at(
-    header: u32,
-    cells: &[u32; Image::MOST_CELLS],
-    tail: &[u16; Image::MOST_TAILS],
-    count: usize,
-    tails: usize,
-    k: usize,
-) -> u8
-    requires { (count ≤ most_cells) × (tails ≤ most_tails) × (k < most_bytes) }
-    ensures { result ≡ word_byte header (λ i. get_or cells.now i 0) (λ t. get_or tail.now t 0) count tails k }
+// Byte k of an image.
+fn byte_at(words: &Words, k: usize) -> u8
+    requires { k < most_bytes }
+    ensures { result ≡ words_byte words.now k }
 {
-    let mut n: u8 = 0;
-    let mut j: usize = 0;
-    while j < 8 {
-        n = n * 2 + bit_at(header, cells, tail, count, tails, 8 * k + j);
-        j += 1;
-    }
-    n
+    numbers::spelled(8, |j| bit_at(words, 8 * k + j)) as u8
 }
 
-fn bit_at(
-    header: u32,
-    cells: &[u32; Image::MOST_CELLS],
-    tail: &[u16; Image::MOST_TAILS],
-    count: usize,
-    tails: usize,
-    i: usize,
-) -> u8
-    requires { (count ≤ most_cells) × (tails ≤ most_tails) }
-    ensures { result ≡ word_bit header (λ i. get_or cells.now i 0) (λ t. get_or tail.now t 0) count tails i }
+// Bit i of an image.
+#[tactic(auto, unfolding(crate::specs::Working::Words::word_bit))]
+fn bit_at(words: &Words, i: usize) -> u16
+    ensures { result ≡ words_bit words.now i }
 {
-    let behind = Image::HEADER_BITS + Image::CELL_BITS * count;
+    let behind = Image::HEADER_BITS + Image::CELL_BITS * words.count;
     if i < Image::HEADER_BITS {
-        return digit(Image::HEADER_BITS, header, i);
+        return digit(Image::HEADER_BITS, words.header, i);
     }
     if i < behind {
         let o = i - Image::HEADER_BITS;
-        return digit(
-            Image::CELL_BITS,
-            cells[o / Image::CELL_BITS],
-            o % Image::CELL_BITS,
-        );
+        let cell = words.cells[o / Image::CELL_BITS];
+        return digit(Image::CELL_BITS, cell, o % Image::CELL_BITS);
     }
-    if i < behind + Image::NET_BITS * tails {
+    if i < behind + Image::NET_BITS * words.tails {
         let o = i - behind;
-        return digit(
-            Image::NET_BITS,
-            packing::wide(tail[o / Image::NET_BITS]),
-            o % Image::NET_BITS,
-        );
+        let net = u32::from(words.tail[o / Image::NET_BITS]);
+        return digit(Image::NET_BITS, net, o % Image::NET_BITS);
     }
     0
 }
 
 // Bit j of a number of w bits.
-fn digit(w: usize, x: u32, j: usize) -> u8
-    requires { (j < w) × (w ≤ 32) }
+fn digit(w: usize, x: u32, j: usize) -> u16
+    requires within { j < w }
+    requires width { w ≤ 32 }
     ensures { result ≡ bit_of w x j }
 {
-    ((x >> (w - (j + 1))) % 2) as u8
+    ((x >> (w - (j + 1))) % 2) as u16
 }

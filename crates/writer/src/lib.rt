@@ -6,29 +6,20 @@ mod layout;
 ghost use Rattle.std.specs.Prelude.{length};
 ghost use Rattle.writer.specs.Meaning.Writing.{Writes};
 
-use format::fields;
+use memory::Refusal;
 use netlist::Design;
 
-#[derive(Clone, Copy)]
-pub enum Written {
-    Bytes(usize),
-    Refused(u8),
-}
-
-// Writes the image of a design, and zero behind it.
-pub fn write(d: Design, image: &mut [u8]) -> Written
+// Writes the image of a design, and zero behind it: how many bytes it has.
+pub fn write(d: Design, image: &mut [u8]) -> Result<usize, Refusal>
     ensures { Writes d (length image.old) result image.new }
 {
-    memory::clear_bytes(image);
-    let number = order::fault_of(d);
-    if number != 0 {
-        return Written::Refused(number);
-    }
+    image.fill(0);
+    order::fault_of(d)?;
     let h = layout::header(d);
-    let bytes = fields::bytes(h);
+    let bytes = h.bytes();
     if image.len() < bytes {
-        return Written::Refused(12);
+        return Err(Refusal::ShortSlice);
     }
     layout::put(d, h, bytes, image);
-    Written::Bytes(bytes)
+    Ok(bytes)
 }

@@ -3,4 +3,4 @@ use Rattle.align_allowed.proofs.Allowing.{spelled}
 use Rattle.align_allowed.proofs.allowed_in.Goals as goal
 
 pub returns : goal.returns
-returns c = spelled _ c.run-parts.ensures
+returns c = rw (c.from.ensures, c.from-2.ensures, c.from-3.ensures, c.from-4.ensures) (spelled _ c.run-parts.ensures)

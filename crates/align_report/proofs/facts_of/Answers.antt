@@ -1,5 +1,5 @@
 -- `facts_of`: few states, so that the number of pairs fits.
-use mathlib.Core.Path.{refl, ap}
+use mathlib.Core.Path.{ap}
 use native.Mathlib.Omega.{arith}
 use native.Mathlib.Nat.{mul-le-mul}
 use Rattle.machine.specs.declared.Sizes.{Sizes}
@@ -9,6 +9,3 @@ use Rattle.align_report.proofs.facts_of.Goals as goal
 
 pub overflow_mul-result : goal.overflow_mul-result
 overflow_mul-result c = record { fits = omega (arith, ap (λ (z : Sizes). pairs z) c.sizes_of-sizes.ensures, mul-le-mul (states_few c.requires.accepted.0) (states_few c.requires.accepted.1)) }
-
-pub returns : goal.returns
-returns c = record { inputs = refl; outputs = refl; old_latches = refl; new_latches = refl; all = ap (λ (z : Sizes). pairs z) c.sizes_of-sizes.ensures; alike = c.requires.counts_pairs.alike; alignable = c.requires.counts_pairs.alignable }

@@ -11,10 +11,3 @@ power-requires-2 c = (sound_of c.requires.1).few_latches
 
 pub power-requires-3 : goal.power-requires-3
 power-requires-3 c = omega (arith, (sound_of c.requires.0).few_inputs)
-
-pub returns : goal.returns
-returns c =
-    let x = c.power.ensures in
-    let y = c.power-2.ensures in
-    let z = c.power-3.ensures in
-    cc

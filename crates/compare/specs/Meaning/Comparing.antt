@@ -9,7 +9,7 @@
 --   Compares a b w0 w1 allowed n s t e r   such a call: the slices are left as t and e, and r is the answer, with the counts of alike and of
 --                                    alignable pairs
 use Rattle.std.specs.Prelude.{ℕ, ◌<◌, ◌≡◌, List}
-use Rattle.memory.specs.Meaning.Refusals.{Keeps}
+use Rattle.memory.specs.Meaning.Refusals.{Keeps, reply_of}
 use Rattle.memory.specs.Meaning.Slices.{Zero}
 use Rattle.memory.specs.Meaning.Tables.{Table, Lengths, lengths_of, shortest_of, ZeroTable}
 use Rattle.netlist.specs.declared.Design.{Design}
@@ -18,7 +18,8 @@ use Rattle.machine.specs.Meaning.Allowed.{WrongAllowed}
 use Rattle.machine.specs.Meaning.Tables.{pairs, Ok}
 use Rattle.machine.specs.Meaning.Lent.{Lent, Left, Tidy, scratch_of}
 use Rattle.verdict.specs.declared.Judged.{Judged}
-use Rattle.verdict.specs.Meaning.Decision.{Decision, verdict_reply, Decided, CountsBeside, ShortList}
+use Rattle.verdict.specs.declared.Verdict.{Verdict}
+use Rattle.verdict.specs.Meaning.Decision.{Decided, CountsBeside, ShortList}
 use Rattle.compare.specs.Meaning.Designs.{machine_of, sizes_of}
 
 -- "two table slices a design, S × V bytes each"; §9: "each design lends a third table slice"
@@ -45,7 +46,7 @@ pub data CompareFault (a b : Design) (w0 w1 : List ℕ) (allowed : ℕ) (n : Tab
   list : {k : ℕ} → ShortList (machine_of a w0) (machine_of b w1) (Ok (sizes_of a b allowed)) (sizes_of a b allowed) s.written k
       → CompareFault a b w0 w1 allowed n s k
 
-pub record Compared (a b : Design) (w0 w1 : List ℕ) (allowed : ℕ) (t : TablesLeft) (e : Left) (x : Decision) : Type 0 where
+pub record Compared (a b : Design) (w0 w1 : List ℕ) (allowed : ℕ) (t : TablesLeft) (e : Left) (x : Verdict) : Type 0 where
   pub decided : Decided (machine_of a w0) (machine_of b w1) (Ok (sizes_of a b allowed)) (sizes_of a b allowed) e.written x
   pub old : HoldsDesign a w0 t.old
   pub new : HoldsDesign b w1 t.new
@@ -62,7 +63,7 @@ pub record TablesKept (n : TablesLent) (t : TablesLeft) : Type 0 where
   pub new : lengths_of t.new ≡ n.new
 
 pub record Compares (a b : Design) (w0 w1 : List ℕ) (allowed : ℕ) (n : TablesLent) (s : Lent) (t : TablesLeft) (e : Left) (r : Judged) : Type 0 where
-  pub keeps : Keeps (CompareFault a b w0 w1 allowed n s) (Compared a b w0 w1 allowed t e) (ClearedAll t e) (verdict_reply r.verdict)
+  pub keeps : Keeps (CompareFault a b w0 w1 allowed n s) (Compared a b w0 w1 allowed t e) (ClearedAll t e) (reply_of r.verdict)
   pub tidy : Tidy s e
   pub tables : TablesKept n t
-  pub counts : CountsBeside (machine_of a w0) (machine_of b w1) (Ok (sizes_of a b allowed)) (sizes_of a b allowed) (verdict_reply r.verdict) r.alike r.alignable
+  pub counts : CountsBeside (machine_of a w0) (machine_of b w1) (Ok (sizes_of a b allowed)) (sizes_of a b allowed) (reply_of r.verdict) r.alike r.alignable

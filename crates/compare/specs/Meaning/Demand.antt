@@ -1,12 +1,13 @@
 -- Demand 3: the verdict is right about designs. Of the design a the nets of the list w0 are watched, of b those of w1; the number `allowed`
 -- names the allowed vectors.
 --   Driven a b w0 w1 allowed p          some list of allowed vectors drives the pair p to an alike pair
---   Right a b w0 w1 allowed l r         the verdict r on a and b, with the list slice l at exit, is right
+--   Right a b w0 w1 allowed l r         r is a verdict on a and b, and no refusal, and it is right, with the list slice l at exit
 --   EnoughTables a b n                  table slices of lengths n are long enough
 --   Enough a b w0 w1 allowed s          so are scratch and list slice of lengths s
 --   Supposed a b w0 w1 allowed n s      what demand 3 supposes: exactly a comparison that is not refused (laws no_fault and not_refused)
 --   Demand3 a b w0 w1 allowed n s e r   where that is so, r is right
-use Rattle.std.specs.Prelude.{ℕ, ◌<◌, ◌≤◌, List, length, take}
+use Rattle.std.specs.Prelude.{ℕ, ◌<◌, ◌≤◌, List, length, take, Result}
+use Rattle.memory.specs.declared.Refusal.{Refusal}
 use Rattle.memory.specs.Meaning.Tables.{shortest_of}
 use Rattle.netlist.specs.declared.Design.{Design}
 use Rattle.netlist.specs.Meaning.Faults.{Accepted}
@@ -27,10 +28,10 @@ pub record Driven (a b : Design) (w0 w1 : List ℕ) (allowed : ℕ) (p : Pair) :
 
 -- found the same, and the list drives every pair of power-up states to an alike pair; or found apart, and no list so drives the pair
 -- named, which is the lowest such pair
-pub data Right (a b : Design) (w0 w1 : List ℕ) (allowed : ℕ) (l : List ℕ) : Verdict → Type 0 where
-  same : (n : ℕ) → n ≤ length l → DrivesAll a b w0 w1 allowed (take n l) → Right a b w0 w1 allowed l (Verdict.Same n)
+pub data Right (a b : Design) (w0 w1 : List ℕ) (allowed : ℕ) (l : List ℕ) : Result Verdict Refusal → Type 0 where
+  same : (n : ℕ) → n ≤ length l → DrivesAll a b w0 w1 allowed (take n l) → Right a b w0 w1 allowed l (Result.Ok (Verdict.Same n))
   apart : (p : Pair) (n : ℕ) → In (sizes_of a b allowed) p → (Driven a b w0 w1 allowed p → ⊥)
-      → ((q : Pair) → In (sizes_of a b allowed) q → number (sizes_of a b allowed) q < number (sizes_of a b allowed) p → Driven a b w0 w1 allowed q) → Right a b w0 w1 allowed l (Verdict.Apart p n)
+      → ((q : Pair) → In (sizes_of a b allowed) q → number (sizes_of a b allowed) q < number (sizes_of a b allowed) p → Driven a b w0 w1 allowed q) → Right a b w0 w1 allowed l (Result.Ok (Verdict.Apart p n))
 
 -- "Lent slices: two table slices a design, S × V bytes each"; §9: "third tables long enough"
 pub record EnoughTables (a b : Design) (n : TablesLent) : Type 0 where
@@ -55,5 +56,5 @@ pub record Supposed (a b : Design) (w0 w1 : List ℕ) (allowed : ℕ) (n : Table
   pub tables : EnoughTables a b n
   pub room : Enough a b w0 w1 allowed s
 
-abbrev pub Demand3 : Design → Design → List ℕ → List ℕ → ℕ → TablesLent → Lent → Left → Verdict → Type 0
+abbrev pub Demand3 : Design → Design → List ℕ → List ℕ → ℕ → TablesLent → Lent → Left → Result Verdict Refusal → Type 0
 Demand3 a b w0 w1 allowed n s e r = Supposed a b w0 w1 allowed n s → Right a b w0 w1 allowed e.written r

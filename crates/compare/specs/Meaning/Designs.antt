@@ -48,6 +48,6 @@ Drives a b w0 w1 allowed p l =
 abbrev pub DrivesAll : Design → Design → List ℕ → List ℕ → ℕ → List ℕ → Type 0
 DrivesAll a b w0 w1 allowed l = AlignsAll (machine_of a w0) (machine_of b w1) (Ok (sizes_of a b allowed)) (sizes_of a b allowed) l
 
--- "`align` allows all", and so does every program that takes no number: what `panel` gives for `Panel.Every` (law every_named)
+-- "`align` allows all", and so does every program that takes no number: what `panel` gives where no number is named (law every_named)
 abbrev pub all_vectors : Design → ℕ
 all_vectors d = every_vector (vectors_of d)

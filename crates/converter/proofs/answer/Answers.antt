@@ -1,12 +1,9 @@
 -- `answer`: the words of input that cannot be read, or what is written of a text.
-use Rattle.streams.proofs.Sending.{read_within, sends_unread, sends_read}
+use Rattle.streams.proofs.Sending.{sends_unread, sends_read}
 use Rattle.converter.proofs.answer.Goals as goal
 
 pub returns-in_default : goal.returns-in_default
 returns-in_default c = sends_unread c.in_default.is c.put_unread.ensures
 
-pub convert-requires : goal.convert-requires
-convert-requires c = (c.requires.0, read_within _ c.in-Read.is c.requires.1, c.requires.2)
-
 pub returns : goal.returns
-returns c = sends_read c.in-Read.is c.convert.ensures c.convert.ensures.counts
+returns c = sends_read c.in-Some.is c.convert.ensures c.convert.ensures.counts

@@ -1,34 +1,37 @@
--- `list_of`: turned away with cleared slices, or what `write_list` leaves.
-use mathlib.Core.Path.{sym, ◌∙◌}
+-- `list_of`: what a call that is not turned away may rely on, and what `write_list` leaves.
+use mathlib.Core.Path.{◌∙◌}
 use native.Mathlib.Omega.{arith}
 use Rattle.seek.proofs.Accepted.{good, room_enough}
-use Rattle.seek.proofs.Sets.{begun, with_begun}
-use Rattle.opening.proofs.Clearing.{tidy_of}
+use Rattle.seek.proofs.Sets.{begun}
 use Rattle.opening.proofs.States.{free_call, free_in}
-use Rattle.engine.proofs.Finds.{first_state, finds_list}
+use Rattle.engine.proofs.Finds.{finds_refused, finds_list}
 use borrow.Author.Rules.{rules}
+use Rattle.std.proofs.lemmas.Result.{err_from_is_err_and}
 use Rattle.engine.proofs.list_of.Goals as goal
 
-pub returns-then-n-ne0 : goal.returns-then-n-ne0
-returns-then-n-ne0 c =
-    record {
-      keeps = (first_state _ _ _ _ _ ((c.begin_pair-n.ensures.for_tables.each c.args.old_out.now c.args.old_seen.now c.args.new_out.now c.args.new_seen.now (record { old = sym c.shorter-old_shown.ensures; new = sym c.shorter-new_shown.ensures })).some c.if-n-ne0.true), c.begin_pair-n.ensures.emptied.written.zero);
-      tidy = tidy_of c.begin_pair-n.ensures.emptied;
-    }
+pub returns-in_err-begin_pair-clause-finds_list : goal.returns-in_err-begin_pair-clause-finds_list
+returns-in_err-begin_pair-clause-finds_list c =
+    let p = err_from_is_err_and c.from_residual.result c.from_residual.ensures.1 in
+    rw (p.1, p.2) (finds_refused _ _ _ _ _ _ c.in_err-begin_pair.ensures.checked c.in_err-begin_pair.ensures.emptied)
 
-pub differ-requires : goal.differ-requires
-differ-requires c =
-    let f = (c.begin_pair-n.ensures.for_tables.each c.args.old_out.now c.args.old_seen.now c.args.new_out.now c.args.new_seen.now (record { old = sym c.shorter-old_shown.ensures; new = sym c.shorter-new_shown.ensures })).none c.if-n-ne0.false in
-    let g = good (free_call f) in
-    record { ample = g.outs; ample_2 = g.seens; sizes_in_bounds = omega (arith, room_enough (free_call f), c.begin_pair-n.ensures.emptied.reach.size) }
+pub differ-requires-clause-outs : goal.differ-requires-clause-outs
+differ-requires-clause-outs c = (good (free_call c.in_ok-begin_pair.ensures.checked)).outs
 
-pub write_list-requires : goal.write_list-requires
-write_list-requires c =
-    let f = (c.begin_pair-n.ensures.for_tables.each c.args.old_out.now c.args.old_seen.now c.args.new_out.now c.args.new_seen.now (record { old = sym c.shorter-old_shown.ensures; new = sym c.shorter-new_shown.ensures })).none c.if-n-ne0.false in
-    record { with_some = with_begun _ (begun _ (good (free_call f)) c.differ.ensures); sizes_in_bounds = omega (arith, room_enough (free_call f), c.begin_pair-n.ensures.emptied.reach.size, c.differ.ensures.long); fact = free_in f }
+pub differ-requires-clause-seens : goal.differ-requires-clause-seens
+differ-requires-clause-seens c = (good (free_call c.in_ok-begin_pair.ensures.checked)).seens
 
-pub returns : goal.returns
-returns c =
-    let e = c.begin_pair-n.ensures.emptied in
-    let f = (c.begin_pair-n.ensures.for_tables.each c.args.old_out.now c.args.old_seen.now c.args.new_out.now c.args.new_seen.now (record { old = sym c.shorter-old_shown.ensures; new = sym c.shorter-new_shown.ensures })).none c.if-n-ne0.false in
-    finds_list _ _ _ f e.written.size (search rules) e.written.zero e.depth (rw (c.differ.ensures.long ∙ e.reach.size) at c.write_list.ensures.cleared) (c.write_list.ensures.with_each.each _ _ _ _ (begun _ (good (free_call f)) c.differ.ensures))
+pub differ-requires-clause-sizes_in_bounds : goal.differ-requires-clause-sizes_in_bounds
+differ-requires-clause-sizes_in_bounds c = omega (arith, room_enough (free_call c.in_ok-begin_pair.ensures.checked), c.in_ok-begin_pair.ensures.emptied.reach.size)
+
+pub write_list-requires-clause-flags : goal.write_list-requires-clause-flags
+write_list-requires-clause-flags c =
+    let free = free_call c.in_ok-begin_pair.ensures.checked in
+    record { begun = begun _ (good free) c.differ.ensures; room = omega (arith, room_enough free, c.in_ok-begin_pair.ensures.emptied.reach.size, c.differ.ensures.long) }
+
+pub write_list-requires-clause-pair_in : goal.write_list-requires-clause-pair_in
+write_list-requires-clause-pair_in c = free_in c.in_ok-begin_pair.ensures.checked
+
+pub returns-clause-finds_list : goal.returns-clause-finds_list
+returns-clause-finds_list c =
+    let e = c.in_ok-begin_pair.ensures.emptied in
+    finds_list _ _ _ c.in_ok-begin_pair.ensures.checked e.written.size (search rules) e.written.zero e.depth (rw (c.differ.ensures.long ∙ e.reach.size) at c.write_list.ensures.cleared) c.write_list.ensures.list_outcome

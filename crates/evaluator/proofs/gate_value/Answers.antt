@@ -1,72 +1,54 @@
 -- `gate_value`: by the case of the gate.
-use mathlib.Core.Path.{refl}
+use mathlib.Core.Path.{◌≡◌, refl}
+use borrow.Author.Rules.{rules}
+use lib.ListN.{get_or}
 use Rattle.netlist.specs.Meaning.Gates.{truth}
 use Rattle.evaluator.proofs.Truth.{not_law, and_law, or_law, xor_law, nand_law, nor_law, xnor_law}
 use Rattle.evaluator.proofs.gate_value.Goals as goal
 
-pub bounds-vals-a : goal.bounds-vals-a
-bounds-vals-a c = rw c.in-Buf.is at c.requires.0
-
-pub bounds-vals-a-in-Not : goal.bounds-vals-a-in-Not
-bounds-vals-a-in-Not c = rw c.in-Not.is at c.requires.0
-
-pub bounds-vals-a-in-And : goal.bounds-vals-a-in-And
-bounds-vals-a-in-And c = rw c.in-And.is at c.requires.0
-
-pub bounds-vals-b : goal.bounds-vals-b
-bounds-vals-b c = rw c.in-And.is at c.requires.1
-
-pub bounds-vals-a-in-Or : goal.bounds-vals-a-in-Or
-bounds-vals-a-in-Or c = rw c.in-Or.is at c.requires.0
-
-pub bounds-vals-b-in-Or : goal.bounds-vals-b-in-Or
-bounds-vals-b-in-Or c = rw c.in-Or.is at c.requires.1
-
-pub bounds-vals-a-in-Xor : goal.bounds-vals-a-in-Xor
-bounds-vals-a-in-Xor c = rw c.in-Xor.is at c.requires.0
-
-pub bounds-vals-b-in-Xor : goal.bounds-vals-b-in-Xor
-bounds-vals-b-in-Xor c = rw c.in-Xor.is at c.requires.1
-
-pub bounds-vals-a-in-Nand : goal.bounds-vals-a-in-Nand
-bounds-vals-a-in-Nand c = rw c.in-Nand.is at c.requires.0
-
-pub bounds-vals-b-in-Nand : goal.bounds-vals-b-in-Nand
-bounds-vals-b-in-Nand c = rw c.in-Nand.is at c.requires.1
-
-pub bounds-vals-a-in-Nor : goal.bounds-vals-a-in-Nor
-bounds-vals-a-in-Nor c = rw c.in-Nor.is at c.requires.0
-
-pub bounds-vals-b-in-Nor : goal.bounds-vals-b-in-Nor
-bounds-vals-b-in-Nor c = rw c.in-Nor.is at c.requires.1
-
-pub bounds-vals-a-in-Xnor : goal.bounds-vals-a-in-Xnor
-bounds-vals-a-in-Xnor c = rw c.in-Xnor.is at c.requires.0
-
-pub bounds-vals-b-in-Xnor : goal.bounds-vals-b-in-Xnor
-bounds-vals-b-in-Xnor c = rw c.in-Xnor.is at c.requires.1
-
 pub returns-in-Buf : goal.returns-in-Buf
 unfolding truth
-returns-in-Buf c = rw c.in-Buf.is refl
+returns-in-Buf c =
+    let x : c.at.result ≡ get_or c.args.vals.now c.in-Buf.a 0 = search rules in
+    rw (c.in-Buf.is, x) refl
 
 pub returns-in-Not : goal.returns-in-Not
-returns-in-Not c = rw c.in-Not.is (not_law _ _ (c.requires.2 _) (c.requires.2 _))
+returns-in-Not c =
+    let x : c.at-in-Not.result ≡ get_or c.args.vals.now c.in-Not.a 0 = search rules in
+    rw (c.in-Not.is, x) (not_law _ _ (c.requires.bits _) (c.requires.bits _))
 
 pub returns-in-And : goal.returns-in-And
-returns-in-And c = rw c.in-And.is (and_law _ _ (c.requires.2 _) (c.requires.2 _))
+returns-in-And c =
+    let x : c.at-in-And.result ≡ get_or c.args.vals.now c.in-And.a 0 = search rules in
+    let y : c.at-in-And-2.result ≡ get_or c.args.vals.now c.in-And.b 0 = search rules in
+    rw (c.in-And.is, x, y) (and_law _ _ (c.requires.bits _) (c.requires.bits _))
 
 pub returns-in-Or : goal.returns-in-Or
-returns-in-Or c = rw c.in-Or.is (or_law _ _ (c.requires.2 _) (c.requires.2 _))
+returns-in-Or c =
+    let x : c.at-in-Or.result ≡ get_or c.args.vals.now c.in-Or.a 0 = search rules in
+    let y : c.at-in-Or-2.result ≡ get_or c.args.vals.now c.in-Or.b 0 = search rules in
+    rw (c.in-Or.is, x, y) (or_law _ _ (c.requires.bits _) (c.requires.bits _))
 
 pub returns-in-Xor : goal.returns-in-Xor
-returns-in-Xor c = rw c.in-Xor.is (xor_law _ _ (c.requires.2 _) (c.requires.2 _))
+returns-in-Xor c =
+    let x : c.at-in-Xor.result ≡ get_or c.args.vals.now c.in-Xor.a 0 = search rules in
+    let y : c.at-in-Xor-2.result ≡ get_or c.args.vals.now c.in-Xor.b 0 = search rules in
+    rw (c.in-Xor.is, x, y) (xor_law _ _ (c.requires.bits _) (c.requires.bits _))
 
 pub returns-in-Nand : goal.returns-in-Nand
-returns-in-Nand c = rw c.in-Nand.is (nand_law _ _ (c.requires.2 _) (c.requires.2 _))
+returns-in-Nand c =
+    let x : c.at-in-Nand.result ≡ get_or c.args.vals.now c.in-Nand.a 0 = search rules in
+    let y : c.at-in-Nand-2.result ≡ get_or c.args.vals.now c.in-Nand.b 0 = search rules in
+    rw (c.in-Nand.is, x, y) (nand_law _ _ (c.requires.bits _) (c.requires.bits _))
 
 pub returns-in-Nor : goal.returns-in-Nor
-returns-in-Nor c = rw c.in-Nor.is (nor_law _ _ (c.requires.2 _) (c.requires.2 _))
+returns-in-Nor c =
+    let x : c.at-in-Nor.result ≡ get_or c.args.vals.now c.in-Nor.a 0 = search rules in
+    let y : c.at-in-Nor-2.result ≡ get_or c.args.vals.now c.in-Nor.b 0 = search rules in
+    rw (c.in-Nor.is, x, y) (nor_law _ _ (c.requires.bits _) (c.requires.bits _))
 
 pub returns-in-Xnor : goal.returns-in-Xnor
-returns-in-Xnor c = rw c.in-Xnor.is (xnor_law _ _ (c.requires.2 _) (c.requires.2 _))
+returns-in-Xnor c =
+    let x : c.at-in-Xnor.result ≡ get_or c.args.vals.now c.in-Xnor.a 0 = search rules in
+    let y : c.at-in-Xnor-2.result ≡ get_or c.args.vals.now c.in-Xnor.b 0 = search rules in
+    rw (c.in-Xnor.is, x, y) (xnor_law _ _ (c.requires.bits _) (c.requires.bits _))

@@ -5,4 +5,4 @@ use Rattle.evaluator.proofs.sources.Goals as goal
 pub returns : goal.returns
 returns c =
     let a = c.args in
-    sources_filled a.d a.s a.v _ _ c.spread.ensures c.spread-2.ensures
+    sources_filled a.d a.s a.v _ _ (rw c.from-inputs.ensures at c.spread.ensures) (rw (c.from-inputs.ensures, c.from-latches.ensures) at c.spread-2.ensures)

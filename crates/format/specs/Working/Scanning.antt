@@ -2,13 +2,12 @@
 --   WithinLimits b    the sizes of the header are within the format's limits
 --   UnreadAbove b m   the second net of some cell that does not read it is above m
 --   UnreadBelow b m n each such net of the first n cells is at most m
---   Narrow h          the fields of the header h are no wider than the format has them
 --   SpellsHeader b h  h holds the fields of the header
 --   SpellsCell b i r  r holds the fields of cell i
 use Rattle.std.specs.Prelude.{ℕ, ◌^◌, ◌<◌, ◌≤◌, ◌≡◌, List}
 use Rattle.limits.specs.Meaning.Limits.{most_inputs, most_latches, most_outputs, most_cells}
-use Rattle.limits.specs.Meaning.Layout.{size_bits, count_bits, kind_bits}
-use Rattle.format.specs.declared.fields.Header.{Header}
+use Rattle.limits.specs.Meaning.Layout.{kind_bits}
+use Rattle.format.specs.declared.header.Header.{Header}
 use Rattle.format.specs.declared.fields.CellFields.{CellFields}
 use Rattle.format.specs.Meaning.Format.{version_in, inputs_in, latches_in, outputs_in, count_in, kind_in, first_in, second_in}
 
@@ -27,19 +26,12 @@ pub record UnreadAbove (b : List ℕ) (m : ℕ) : Type 0 where
 abbrev pub UnreadBelow : List ℕ → ℕ → ℕ → Type 0
 UnreadBelow b m n = (i : ℕ) → i < n → kind_in b i < 2 → second_in b i ≤ m
 
-pub record Narrow (h : Header) : Type 0 where
-  pub inputs : h.inputs < 2 ^ size_bits
-  pub latches : h.latches < 2 ^ size_bits
-  pub outputs : h.outputs < 2 ^ size_bits
-  pub count : h.count < 2 ^ count_bits
-
 pub record SpellsHeader (b : List ℕ) (h : Header) : Type 0 where
   pub version : h.version ≡ version_in b
   pub inputs : h.inputs ≡ inputs_in b
   pub latches : h.latches ≡ latches_in b
   pub outputs : h.outputs ≡ outputs_in b
   pub count : h.count ≡ count_in b
-  pub narrow : Narrow h
 
 pub record SpellsCell (b : List ℕ) (i : ℕ) (r : CellFields) : Type 0 where
   pub kind : r.kind ≡ kind_in b i

@@ -8,8 +8,11 @@
 --   BadWords ws        there are no words, or one of them is no number
 --   Bad s              the line at the front of s is missing, or one of its words is no number
 --   Spaced, Ended s w r    the word w stands at the front of s, with a space or a line feed and then r behind it
---   FieldAt s v k r    a number v and its stop byte k stand at the front of s, and then r; 0 where none does
-use Rattle.std.specs.Prelude.{ℕ, ◌+◌, ◌*◌, ◌<◌, ◌≤◌, min, ◌≡◌, ◌⊎◌, true, false, cond, List, [], ◌∷◌, ◌++◌, length, get_or, drop}
+--   Capped v w         the word w spells v, or both numbers are cap or more
+--   Field s v k r      a number v and its stop byte k stand at the front of s, and then r
+--   FieldAt t at f     of the number at place `at` of t: f is that number as a Field, or none where the line there is bad
+use Rattle.std.specs.Prelude.{ℕ, ◌+◌, ◌*◌, ◌<◌, ◌≤◌, min, ◌≡◌, ◌⊎◌, true, false, cond, List, [], ◌∷◌, ◌++◌, length, get_or, drop, Option, None, Some}
+use Rattle.lines.specs.declared.Taken.{Taken}
 use Rattle.lines.specs.Meaning.Spelling.{words, behind, digit, numeral, onward, value}
 
 unfoldable pub front : List ℕ → List ℕ
@@ -56,10 +59,14 @@ pub record Ended (s w r : List ℕ) : Type 0 where
 abbrev pub Capped : ℕ → List ℕ → Type 0
 Capped v w = min v cap ≡ min (value w) cap
 
-pub record FieldAt (s : List ℕ) (v k : ℕ) (r : List ℕ) : Type 0 where
-  pub bad : (k ≡ 32 → ⊥) → (k ≡ 10 → ⊥) → Bad s
+pub record Field (s : List ℕ) (v k : ℕ) (r : List ℕ) : Type 0 where
+  pub stops : (k ≡ 32) ⊎ (k ≡ 10)
   pub spaced : k ≡ 32 → (w : List ℕ) × Spaced s w r × Capped v w
   pub ended : k ≡ 10 → (w : List ℕ) × Ended s w r × Capped v w
+
+abbrev pub FieldAt : List ℕ → ℕ → Option Taken → Type 0
+FieldAt t at None = Bad (drop at t)
+FieldAt t at (Some n) = Field (drop at t) n.value n.stop (drop n.end t) × (n.end ≤ length t)
 
 -- the digits from `at` up to i are passed, and n is what they spell
 pub record Passed (t : List ℕ) (at n i : ℕ) : Type 0 where

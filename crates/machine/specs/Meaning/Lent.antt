@@ -1,11 +1,12 @@
 -- The slices that a call over two tables is lent besides them: both scratch slices, and the one that it writes its answer to.
 --   Lent              how many entries they have: depth, of bytes, and reach, of 16-bit numbers, are the two scratch slices, and written is the
---                     mark or list slice, of bytes; lent_of makes it
+--                     mark or list slice, of bytes; lent_of makes it, and lent_in tells it of the slices
 --   scratch_of s       how many entries the shorter scratch slice has; room_of s the shortest of scratch and marks
---   Left              what they hold at exit; left_of makes it
+--   Left              what they hold at exit; left_of makes it, and left_in tells it of the slices
 --   Tidy s e          scratch is all zero, and every slice is as long as it was
 --   Listed S list n   the first n bytes of the list slice have S, and all beyond them is 0
 use Rattle.std.specs.Prelude.{◌≡◌, List, ℕ, ◌≤◌, min, length, take}
+use Rattle.memory.specs.declared.Scratch.{Scratch}
 use Rattle.memory.specs.Meaning.Slices.{ZeroFrom, Cleared}
 
 -- "both scratch slices; a map takes a mark slice besides, the others a list slice"; §8: "one of the two scratch slices becomes one byte a pair;
@@ -25,6 +26,12 @@ lent_of depth reach written = record { depth = depth; reach = reach; written = w
 
 abbrev pub left_of : List ℕ → List ℕ → List ℕ → Left
 left_of depth reach written = record { depth = depth; reach = reach; written = written }
+
+abbrev pub lent_in : Scratch → List ℕ → Lent
+lent_in s l = lent_of (length s.depth.now) (length s.reach.now) (length l)
+
+abbrev pub left_in : Scratch → List ℕ → Left
+left_in s l = left_of s.depth.now s.reach.now l
 
 -- "12 a .. scratch .. slice too short": one is where the shorter is
 abbrev pub scratch_of : Lent → ℕ

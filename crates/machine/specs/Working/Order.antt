@@ -5,35 +5,34 @@
 --   BeforeBy R s a b   a comes before b
 --   FirstBy R s P l    l is the first list that has P
 --   Lower, Before, First are by Sooner. By Less they are document 01's, "lower first".
-use Rattle.std.specs.Prelude.{◌≡◌, ◌⊎◌, List, [], ◌∷◌, ℕ, ◌<◌, length}
-use Rattle.machine.specs.declared.Prior.{Prior}
+use Rattle.std.specs.Prelude.{◌≡◌, ◌⊎◌, List, [], ◌∷◌, ℕ, ◌<◌, length, Option, Some}
 
-pub data Sooner (s : Prior) (x y : ℕ) : Type 0 where
-  kept : s ≡ Prior.Vector x → (x ≡ y → ⊥) → Sooner s x y
-  lowest : (s ≡ Prior.Vector y → ⊥) → x < y → Sooner s x y
+pub data Sooner (s : Option ℕ) (x y : ℕ) : Type 0 where
+  kept : s ≡ Some x → (x ≡ y → ⊥) → Sooner s x y
+  lowest : (s ≡ Some y → ⊥) → x < y → Sooner s x y
 
-abbrev pub Less : Prior → ℕ → ℕ → Type 0
+abbrev pub Less : Option ℕ → ℕ → ℕ → Type 0
 Less s x y = x < y
 
-module _ (R : Prior → ℕ → ℕ → Type 0) where
-  abbrev pub LowerBy : Prior → List ℕ → List ℕ → Type 0
+module _ (R : Option ℕ → ℕ → ℕ → Type 0) where
+  abbrev pub LowerBy : Option ℕ → List ℕ → List ℕ → Type 0
   LowerBy s [] b = ⊥
   LowerBy s (x ∷ xs) [] = ⊥
-  LowerBy s (x ∷ xs) (y ∷ ys) = R s x y ⊎ ((x ≡ y) × LowerBy (Prior.Vector x) xs ys)
+  LowerBy s (x ∷ xs) (y ∷ ys) = R s x y ⊎ ((x ≡ y) × LowerBy (Some x) xs ys)
 
-  pub data BeforeBy (s : Prior) (a b : List ℕ) : Type 0 where
+  pub data BeforeBy (s : Option ℕ) (a b : List ℕ) : Type 0 where
     shorter : length a < length b → BeforeBy s a b
     lower : length a ≡ length b → LowerBy s a b → BeforeBy s a b
 
-  pub record FirstBy (s : Prior) (P : List ℕ → Type 0) (l : List ℕ) : Type 0 where
+  pub record FirstBy (s : Option ℕ) (P : List ℕ → Type 0) (l : List ℕ) : Type 0 where
     pub has : P l
     pub least : (m : List ℕ) → P m → BeforeBy s m l → ⊥
 
-abbrev pub Lower : Prior → List ℕ → List ℕ → Type 0
+abbrev pub Lower : Option ℕ → List ℕ → List ℕ → Type 0
 Lower = LowerBy Sooner
 
-abbrev pub Before : Prior → List ℕ → List ℕ → Type 0
+abbrev pub Before : Option ℕ → List ℕ → List ℕ → Type 0
 Before = BeforeBy Sooner
 
-abbrev pub First : Prior → (List ℕ → Type 0) → List ℕ → Type 0
+abbrev pub First : Option ℕ → (List ℕ → Type 0) → List ℕ → Type 0
 First = FirstBy Sooner

@@ -1,10 +1,8 @@
 -- `spread`: the successors under one vector after the other.
-use Prim.Native.Nat.{◌≤◌, ◌-◌}
-use Rattle.marks.proofs.Moving.{Spreading}
+use Rattle.std.proofs.Common.{take}
+use Rattle.machine.specs.Meaning.Lists.{run}
+use Rattle.marks.specs.Working.{next_of, Successors}
 use Rattle.marks.proofs.spread.Given as goal
 
-abbrev pub invariant-loop-i : goal.invariant-loop-i
-invariant-loop-i l = (l.i ≤ l.to) × Spreading l.states l.vectors l.next l.list l.from l.initial.current l.i l.current
-
-abbrev pub decreases-loop-i : goal.decreases-loop-i
-decreases-loop-i l = l.to - l.i
+abbrev pub invariant-loop-v : goal.invariant-loop-v
+invariant-loop-v l = Successors (λ s. run (next_of l.vectors l.next) s (take l.v-index l.list)) l.states l.initial.current l.current

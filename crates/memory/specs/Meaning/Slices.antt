@@ -3,7 +3,13 @@
 --   ZeroFrom n l      every entry of the list l from place n on is 0
 --   Zero l            every entry is 0
 --   Cleared n l       n entries, all 0
+--   SameScratch s s'  the two slices that s held are those that s' holds, whatever is in them
 use Rattle.std.specs.Prelude.{ℕ, ◌≤◌, ◌≡◌, List, length, get_or}
+use Rattle.memory.specs.declared.Scratch.{Scratch}
+
+-- a ghost name says which slice a reference is to
+abbrev pub SameScratch : Scratch → Scratch → Type 0
+SameScratch s s' = (s'.depth.ghost_name ≡ s.depth.ghost_name) × (s'.reach.ghost_name ≡ s.reach.ghost_name)
 
 -- "After an answer the part beyond it is zero"
 abbrev pub ZeroFrom : ℕ → List ℕ → Type 0

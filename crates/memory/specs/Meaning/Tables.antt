@@ -1,11 +1,15 @@
 -- The three table slices that a design lends, a byte for each state under each vector: next states, outputs and watched values. Every
 -- contract takes them in this order.
 --   Table, table_of   what they hold
+--   table_in t, held_in t   what those hold that are lent to be read, and to be written
+--   SameTable t t'   the three slices that t held are those that t' holds, whatever is in them
 --   Lengths          how many bytes they have
 --   lengths_of t      how many bytes those of t have
 --   shortest_of n     how many bytes the shortest has
 --   ZeroTable t      they are zero
-use Rattle.std.specs.Prelude.{ℕ, min, List, length}
+use Rattle.std.specs.Prelude.{ℕ, ◌≡◌, min, List, length}
+use Rattle.memory.specs.declared.TableRef.{TableRef}
+use Rattle.memory.specs.declared.TableMut.{TableMut}
 use Rattle.memory.specs.Meaning.Slices.{Zero}
 
 -- "two table slices a design"; §9: "each design lends a third table slice of S × V bytes for watched values"
@@ -16,6 +20,16 @@ pub record Table : Type 0 where
 
 abbrev pub table_of : List ℕ → List ℕ → List ℕ → Table
 table_of next out seen = record { next = next; out = out; seen = seen }
+
+abbrev pub table_in : TableRef → Table
+table_in t = table_of t.next.now t.out.now t.seen.now
+
+abbrev pub held_in : TableMut → Table
+held_in t = table_of t.next.now t.out.now t.seen.now
+
+-- a ghost name says which slice a reference is to
+abbrev pub SameTable : TableMut → TableMut → Type 0
+SameTable t t' = (t'.next.ghost_name ≡ t.next.ghost_name) × (t'.out.ghost_name ≡ t.out.ghost_name) × (t'.seen.ghost_name ≡ t.seen.ghost_name)
 
 pub record Lengths : Type 0 where
   pub next : ℕ

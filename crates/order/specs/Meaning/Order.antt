@@ -2,9 +2,10 @@
 --   Earlier d l k n    net n is driven by no cell, or by one of the first k of the list l
 --   Runs d l n         l has 256 entries, and each of its first n cells reads only nets that are driven earlier
 --   Ordered d l n      the first n entries of l are the kept cells, each once, in such an order
---   Plans d number n l the first number that applies to the design d; where it is 0, none does, and l is an order of its n kept cells
-use Rattle.std.specs.Prelude.{ℕ, ◌+◌, ◌<◌, ◌≡◌, ◌⊎◌, List, length, get_or}
-use Rattle.memory.specs.Meaning.Refusals.{FirstOrNone}
+--   Plans d r n l      r says which number is the first that applies to the design d; where none does, l is an order of its n kept cells
+use Rattle.std.specs.Prelude.{ℕ, ◌+◌, ◌<◌, ◌≡◌, ◌⊎◌, List, length, get_or, Result, Ok}
+use Rattle.memory.specs.declared.Refusal.{Refusal}
+use Rattle.memory.specs.Meaning.Refusals.{Checked}
 use Rattle.memory.specs.Meaning.Slices.{ZeroFrom}
 use Rattle.netlist.specs.declared.Design.{Design}
 use Rattle.limits.specs.Meaning.Limits.{most_cells}
@@ -28,8 +29,8 @@ pub record Ordered (d : Design) (l : List ℕ) (n : ℕ) : Type 0 where
   pub once : (j k : ℕ) → j < k → k < n → get_or l j 0 ≡ get_or l k 0 → ⊥
 
 -- an order where no number applies; beside a number no cells; zero beyond them
-pub record Plans (d : Design) (number n : ℕ) (l : List ℕ) : Type 0 where
-  pub first : FirstOrNone (DesignFault d) number
-  pub ordered : number ≡ 0 → Ordered d l n
+pub record Plans (d : Design) (r : Result (Unit {0}) Refusal) (n : ℕ) (l : List ℕ) : Type 0 where
+  pub first : Checked (DesignFault d) r
+  pub ordered : r ≡ Ok tt → Ordered d l n
   pub beyond : ZeroFrom n l
-  pub refused : (number ≡ 0 → ⊥) → n ≡ 0
+  pub refused : (r ≡ Ok tt → ⊥) → n ≡ 0

@@ -1,5 +1,4 @@
 -- `cell_words`: the cells passed are packed, and the others 0.
-use Prim.Native.Nat.{◌-◌, ◌≤◌}
 use Rattle.memory.specs.Working.Filling.{Filled}
 use Rattle.limits.specs.Meaning.Limits.{most_cells}
 use Rattle.netlist.specs.Meaning.Nets.{gate_at}
@@ -7,7 +6,4 @@ use Rattle.packing.specs.Working.{cell_word}
 use Rattle.packing.proofs.cell_words.Given as goal
 
 abbrev pub invariant-loop-i : goal.invariant-loop-i
-invariant-loop-i l = (l.i ≤ l.count) × Filled (λ k. cell_word (gate_at l.d k)) 0 most_cells l.i l.words
-
-abbrev pub decreases-loop-i : goal.decreases-loop-i
-decreases-loop-i l = l.count - l.i
+invariant-loop-i l = Filled (λ k. cell_word (gate_at l.d k)) 0 most_cells l.i l.words

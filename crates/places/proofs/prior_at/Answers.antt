@@ -1,6 +1,7 @@
--- `prior_at`: no step, or the one at n - 1.
-use Rattle.places.proofs.Priors.{prior_after}
+-- `prior_at`: the last entry of those before n.
+use Rattle.std.proofs.Common.{rules}
+use Rattle.places.proofs.Priors.{last_after}
 use Rattle.places.proofs.prior_at.Goals as goal
 
 pub returns : goal.returns
-returns c = prior_after _ _ c.if-n-eq0.false c.requires _ c.byte_at-v.ensures
+returns c = search (rules, last_after)

@@ -1,19 +1,10 @@
-use native.Mathlib.Omega.{arith}
-use Rattle.netlist.proofs.Numbers.{not_3}
-use Rattle.netlist.specs.Meaning.Faults.{DesignFault}
+-- `over_limit`: a size over its limit is a fault of the design, and nothing else is 3.
+use mathlib.Core.Bool.{false≢true}
+use Rattle.memory.proofs.Tests.{tells_of}
+use Rattle.ranges.proofs.Over.{over_3, three_over}
 use Rattle.ranges.proofs.over_limit.Goals as goal
 
-pub returns-then-d-gt-MOST_INPUTS : goal.returns-then-d-gt-MOST_INPUTS
-returns-then-d-gt-MOST_INPUTS c = DesignFault.inputs c.if-d-gt-MOST_INPUTS.true
-
-pub returns-then-d-gt-MOST_LATCHES : goal.returns-then-d-gt-MOST_LATCHES
-returns-then-d-gt-MOST_LATCHES c = DesignFault.latches c.if-d-gt-MOST_LATCHES.true
-
-pub returns-then-d-gt-MOST_OUTPUTS : goal.returns-then-d-gt-MOST_OUTPUTS
-returns-then-d-gt-MOST_OUTPUTS c = DesignFault.outputs c.if-d-gt-MOST_OUTPUTS.true
-
-pub returns-then-d-gt-MOST_CELLS : goal.returns-then-d-gt-MOST_CELLS
-returns-then-d-gt-MOST_CELLS c = DesignFault.cells c.if-d-gt-MOST_CELLS.true
-
 pub returns : goal.returns
-returns c = not_3 (record { few_inputs = omega arith; few_latches = omega arith; few_outputs = omega arith; few_cells = omega arith })
+returns c =
+    let o = rw (c.from.ensures, c.from-2.ensures, c.from-3.ensures, c.from-4.ensures) at c.over_limit.ensures in
+    tells_of c.over_limit.result (λ e. over_3 c.args.d (o.0 e)) (λ e f. false≢true (rw e at (o.1 (three_over c.args.d f))))

@@ -1,13 +1,11 @@
 -- `put_refusal`: the words of each side.
-use native.Mathlib.Omega.{arith}
-use Rattle.pieces.proofs.Putting.{put_printed}
 use Rattle.report.proofs.put_refusal.Goals as goal
 
 pub returns-in-Old : goal.returns-in-Old
-returns-in-Old c = rw (c.in-Old.is, ← c.wide-n.ensures.0) (put_printed c.put_last_field.ensures (omega arith))
+returns-in-Old c = rw (c.in-Old.is, ← c.number.ensures, ← c.from-n.ensures) c.put_line.ensures
 
 pub returns-in-New : goal.returns-in-New
-returns-in-New c = rw (c.in-New.is, ← c.wide-n.ensures.0) (put_printed c.put_last_field-in-New.ensures (omega arith))
+returns-in-New c = rw (c.in-New.is, ← c.number.ensures, ← c.from-n.ensures) c.put_line-in-New.ensures
 
 pub returns-in-Both : goal.returns-in-Both
-returns-in-Both c = rw (c.in-Both.is, ← c.wide-n.ensures.0) (put_printed c.put_last_field-in-Both.ensures (omega arith))
+returns-in-Both c = rw (c.in-Both.is, ← c.number.ensures, ← c.from-n.ensures) c.put_line-in-Both.ensures

@@ -5,15 +5,12 @@
 --   same_text f l               the text of Same with the list l
 --   apart_text m0 m1 f p l      the text of Apart with the pair p and its trace l, of the machines m0 and m1
 --   shown_lines                 the lines of a trace of two machines
---   shown_tables z a b c d      the tables of the sizes z of which the texts tell: next states a and outputs b of the old design, c and d of the new
 --   apart_in t f p l            the text of Apart, of the machines in the tables t
 use Rattle.std.specs.Prelude.{ℕ, List, [], ◌∷◌, ◌++◌, length}
 use Prim.Native.String.{String}
-use Rattle.memory.specs.Meaning.Tables.{table_of}
 use Rattle.machine.specs.declared.Pair.{Pair}
-use Rattle.machine.specs.declared.Sizes.{Sizes}
 use Rattle.machine.specs.Meaning.Machine.{Machine, step}
-use Rattle.machine.specs.Meaning.Tables.{Tables, tables_of, old_machine, new_machine}
+use Rattle.machine.specs.Meaning.Tables.{Tables, old_machine, new_machine}
 use Rattle.pieces.specs.Meaning.Pieces.{spelled, newline, field, last_field}
 use Rattle.report.specs.declared.Facts.{Facts}
 use Rattle.report.specs.declared.Side.{Side}
@@ -75,10 +72,6 @@ module _ (m0 m1 : Machine) where
   abbrev pub apart_text : Facts → Pair → List ℕ → List ℕ
   apart_text f p l = head_text f ++ pair_line p (length l) ++ shown_lines p l
 
--- watched values are not printed
-abbrev pub shown_tables : Sizes → List ℕ → List ℕ → List ℕ → List ℕ → Tables
-shown_tables z next0 out0 next1 out1 = tables_of z (table_of next0 out0 []) (table_of next1 out1 [])
-
--- the same of the machines in two tables
+-- the same of the machines in two tables; watched values are not printed
 abbrev pub apart_in : Tables → Facts → Pair → List ℕ → List ℕ
 apart_in t f p l = apart_text (old_machine t) (new_machine t) f p l

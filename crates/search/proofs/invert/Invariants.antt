@@ -1,10 +1,6 @@
 -- `invert`: the states, one after the other; each is put before the chain of the state that it leads to.
-use Prim.Native.Nat.{◌-◌}
 use Rattle.search.proofs.Chains.{Linked}
 use Rattle.search.proofs.invert.Given as goal
 
 abbrev pub invariant-loop-s : goal.invariant-loop-s
 invariant-loop-s l = Linked l.next l.states l.vectors l.v l.s l.first l.link
-
-abbrev pub decreases-loop-s : goal.decreases-loop-s
-decreases-loop-s l = l.states - l.s

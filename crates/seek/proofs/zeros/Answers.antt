@@ -1,20 +1,17 @@
--- `zeros`: a turn an entry.
-use mathlib.Core.Path.{ap, ◌∙◌}
+-- `zeros`: the count over the list of the entries.
+use mathlib.Core.Path.{◌≡◌, ◌∙◌}
 use native.Mathlib.Omega.{arith}
+use borrow.Author.Rules.{rules}
+use lib.Dec.{eqb}
+use lib.ListN.{get_or, take}
+use Rattle.std.specs.List.{count_by}
 use Rattle.numbers.specs.Meaning.Count.{count_of}
-use Rattle.seek.proofs.Tallies.{zeros_start, zero_more, other_more}
+use Rattle.numbers.proofs.Counting.{count_le}
+use Rattle.seek.proofs.Tallies.{zeros_counted}
 use Rattle.seek.proofs.zeros.Goals as goal
-use Rattle.seek.proofs.zeros.Goals.{then-map-i-eq0, else-map-i-eq0}
-
-pub loop-i-init : goal.loop-i-init
-loop-i-init c = (omega arith, omega arith, zeros_start c.args.map.now)
-
-pub loop-i-preserved : goal.loop-i-preserved
-loop-i-preserved c =
-    elim c.if-map-i-eq0.branch [
-      | then-map-i-eq0 w ↦ rw w.count-is (omega arith, omega arith, omega (arith, c.loop-i.invariant.2, zero_more c.args.map.now c.loop-i.i w.if-map-i-eq0.true))
-      | else-map-i-eq0 w ↦ rw w.count-is (omega arith, omega arith, omega (arith, c.loop-i.invariant.2, other_more c.args.map.now c.loop-i.i w.if-map-i-eq0.false))
-    ]
 
 pub returns : goal.returns
-returns c = (c.loop-i.invariant.2 ∙ ap (count_of 0 c.args.map.now) (omega arith), omega arith)
+returns c =
+    let e : c.count.result ≡ count_by (λ x. eqb x 0) (take c.args.n c.args.map.now) = search rules in
+    let s : c.count.result ≡ count_of 0 c.args.map.now c.args.n = e ∙ zeros_counted c.args.map.now c.args.n c.requires.n_in_bounds in
+    (s, omega (arith, s, count_le (λ i. eqb (get_or c.args.map.now i 0) 0) c.args.n))

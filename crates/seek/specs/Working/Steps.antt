@@ -2,6 +2,7 @@
 --   Begun t d                      the tables t are accepted, and d says where they show a difference at once
 --   MapOf t G d r                  the map d is right for the set G, and r is the number of the first round that adds nothing
 --   ToZeros z n0 n1 d d'           d' is the map of the lists to the pairs for which d holds 0
+--   ToZerosIn t                    the same, of the tables t
 --   Both t depth reach             depth is the map to pairs that show a difference, and reach the map to alike pairs
 --   MapCounts z depth reach n k    n entries of depth are 0, and k of reach are not
 use Rattle.std.specs.Prelude.{◌≡◌, List, ℕ, ◌+◌, get_or}
@@ -28,6 +29,9 @@ pub record ToZeros (z : Sizes) (next0 next1 d d' : List ℕ) : Type 0 where
   pub flagged : Flagged (λ q. get_or d q 0 ≡ 0) (pairs z) d start
   pub round : ℕ
   pub searched : Searched z next0 next1 start d' round
+
+abbrev pub ToZerosIn : Tables → List ℕ → List ℕ → Type 0
+ToZerosIn t = ToZeros t.sizes t.old.next t.new.next
 
 pub record Both (t : Tables) (depth reach : List ℕ) : Type 0 where
   pub traces : MapFor t (DiffersIn t) depth

@@ -1,31 +1,27 @@
 -- `clock`: 3, 5 and 9, then 14, then the step.
-use Rattle.simulator.proofs.Faults.{clock_design, clock_14, clock_free}
-use Rattle.simulator.specs.Meaning.Clock.{ClockFault}
-use Rattle.netlist.proofs.Numbers.{sound_of}
-use native.Mathlib.Omega.{arith}
+use Rattle.std.proofs.Common.{arith, Err}
+use Rattle.std.proofs.lemmas.Grind.{common_steps}
+use Rattle.simulator.specs.Meaning.Clock.{Clocks}
+use Rattle.simulator.proofs.Clocking.{clock_refused, clock_latches, clock_inputs, clock_state, clock_vector, clock_ready}
 use Rattle.simulator.proofs.clock.Goals as goal
+use Rattle.simulator.proofs.clock.Goals.{then-power-state-via-then-power-state, then-power-state-via-else-power-state+then-power-vector}
 
-pub returns-then-plan-ne0 : goal.returns-then-plan-ne0
-returns-then-plan-ne0 c = record { keeps = (clock_design _ _ _ (c.levelize-plan.ensures.first.some c.if-plan-ne0.true), tt) }
+pub returns-in_err-plan : goal.returns-in_err-plan
+returns-in_err-plan c =
+    let k : Clocks c.args.d c.args.state c.args.vector (Err c.in_err-plan.field-0.0) = clock_refused _ _ _ _ _ _ _ c.levelize-plan.ensures c.in_err-plan.was in
+    grind (arith, common_steps, k)
 
 pub power-requires : goal.power-requires
-power-requires c = omega (arith, (sound_of (c.levelize-plan.ensures.first.none (omega arith))).few_latches)
+power-requires c = clock_latches _ _ _ _ c.levelize-plan.ensures c.in_ok-plan.field-0 c.in_ok-plan.was
+
+pub power-requires-else-power-state : goal.power-requires-else-power-state
+power-requires-else-power-state c = clock_inputs _ _ _ _ c.levelize-plan.ensures c.in_ok-plan.field-0 c.in_ok-plan.was
 
 pub returns-then-power-state : goal.returns-then-power-state
-returns-then-power-state c = record { keeps = (clock_14 _ _ _ (c.levelize-plan.ensures.first.none (omega arith)) (ClockFault.state (rw c.power.ensures.0 at c.if-power-state.true)), tt) }
+returns-then-power-state c = elim c.then-power-state.branch [
+  | then-power-state-via-then-power-state w ↦ clock_state _ _ _ _ _ _ c.levelize-plan.ensures c.in_ok-plan.field-0 c.in_ok-plan.was (rw c.power.ensures.0 at w.if-power-state.true)
+  | then-power-state-via-else-power-state+then-power-vector w ↦ clock_vector _ _ _ _ _ _ c.levelize-plan.ensures c.in_ok-plan.field-0 c.in_ok-plan.was (rw w.power-else-power-state.ensures.0 at w.if-power-vector.true)
+]
 
-pub power-requires-2 : goal.power-requires-2
-power-requires-2 c = omega (arith, (sound_of (c.levelize-plan.ensures.first.none (omega arith))).few_inputs)
-
-pub returns-then-power-vector : goal.returns-then-power-vector
-returns-then-power-vector c = record { keeps = (clock_14 _ _ _ (c.levelize-plan.ensures.first.none (omega arith)) (ClockFault.vector (rw c.power-2.ensures.0 at c.if-power-vector.true)), tt) }
-
-pub step-s-requires : goal.step-s-requires
-step-s-requires c = record { sound = sound_of (c.levelize-plan.ensures.first.none (omega arith)); ordered = c.levelize-plan.ensures.ordered (omega arith) }
-
-pub returns : goal.returns
-returns c =
-    let none = c.levelize-plan.ensures.first.none (omega arith) in
-    record {
-      keeps = (clock_free _ _ _ none (rw c.power.ensures.0 at c.if-power-state.false) (rw c.power-2.ensures.0 at c.if-power-vector.false), record { next = c.step-s.ensures.0; out = c.step-s.ensures.1 });
-    }
+pub step-requires : goal.step-requires
+step-requires c = clock_ready _ _ _ _ c.levelize-plan.ensures c.in_ok-plan.field-0 c.in_ok-plan.was

@@ -1,46 +1,55 @@
 -- `tabulate_both`: the first number over both designs and the pair, then every clock of both.
-use Rattle.simulator.proofs.Faults.{old_free, new_free}
-use Rattle.simulator.proofs.Preparing.{sound_table, prepared_holds, pair_number, old_none, new_none}
-use native.Mathlib.Omega.{arith}
+use Rattle.std.proofs.Common.{arith, Err}
+use Rattle.std.proofs.lemmas.Grind.{common_steps}
+use Rattle.memory.specs.Meaning.Tables.{held_in, lengths_of}
+use Rattle.memory.proofs.Tables.{cleared_zero, cleared_room}
+use Rattle.simulator.specs.Meaning.Tables.{TabulatesBoth}
+use Rattle.simulator.proofs.Preparing.{filled_holds, filled_room, pair_first, pair_free, old_begins, new_begins}
 use Rattle.simulator.proofs.tabulate_both.Goals as goal
 
-pub write-requires : goal.write-requires
-write-requires c = λ e. (rw (c.shorter-old_room.ensures, c.shorter.ensures) at c.prepare-old_prepared.ensures).fills (old_none ((rw (c.shorter-old_room.ensures, c.shorter.ensures) at c.prepare-old_prepared.ensures)) ((rw (c.shorter-new_room.ensures, c.shorter-2.ensures) at c.prepare-new_prepared.ensures)) c.both_number-number.ensures e)
-
-pub write-requires-2 : goal.write-requires-2
-write-requires-2 c = λ e. (rw (c.shorter-new_room.ensures, c.shorter-2.ensures) at c.prepare-new_prepared.ensures).fills (new_none ((rw (c.shorter-old_room.ensures, c.shorter.ensures) at c.prepare-old_prepared.ensures)) ((rw (c.shorter-new_room.ensures, c.shorter-2.ensures) at c.prepare-new_prepared.ensures)) c.both_number-number.ensures e)
-
-pub returns-then-number-ne0 : goal.returns-then-number-ne0
-returns-then-number-ne0 c =
+pub returns-in_err-old_prepared-clause-tabulates_both : goal.returns-in_err-old_prepared-clause-tabulates_both
+returns-in_err-old_prepared-clause-tabulates_both c =
+    let p = rw c.room.ensures at c.prepare-old_prepared.ensures in
+    let q = rw c.room-2.ensures at c.prepare-new_prepared.ensures in
+    let t0 = held_in c.args.old_table.now in
+    let t1 = held_in c.args.new_table.now in
+    let u0 = held_in c.clear.new.self in
+    let u1 = held_in c.clear-2.new.self in
+    let x = c.clear.ensures in
+    let y = c.clear-2.ensures in
+    let k : TabulatesBoth c.args.old c.args.new c.args.old_watch.now c.args.new_watch.now (lengths_of t0) (lengths_of t1) (Err c.in_err-old_prepared.field-0.0) u0 u1 =
     record {
-      keeps = ((pair_number ((rw (c.shorter-old_room.ensures, c.shorter.ensures) at c.prepare-old_prepared.ensures)) ((rw (c.shorter-new_room.ensures, c.shorter-2.ensures) at c.prepare-new_prepared.ensures)) c.both_number-number.ensures).some c.if-number-ne0.true, (c.write.ensures.zero c.if-number-ne0.true, c.write-2.ensures.zero c.if-number-ne0.true));
-      old_room = c.write.ensures.room;
-      new_room = c.write-2.ensures.room;
+      keeps = (pair_first _ _ _ _ _ _ c.prepare-old_prepared.result c.prepare-new_prepared.result c.both-either.result c.interface.result p q c.both-either.ensures c.interface.ensures _ c.in_err-old_prepared.ensures, (cleared_zero t0 u0 x.next x.out x.seen, cleared_zero t1 u1 y.next y.out y.seen));
+      old_room = cleared_room t0 u0 x.next x.out x.seen;
+      new_room = cleared_room t1 u1 y.next y.out y.seen;
     }
+    in
+    grind (arith, common_steps, k)
 
-pub power-requires : goal.power-requires
-power-requires c =
-    let n = (pair_number ((rw (c.shorter-old_room.ensures, c.shorter.ensures) at c.prepare-old_prepared.ensures)) ((rw (c.shorter-new_room.ensures, c.shorter-2.ensures) at c.prepare-new_prepared.ensures)) c.both_number-number.ensures).none c.if-number-ne0.false in
-    omega (arith, (sound_table _ _ _ (old_free _ _ _ _ _ _ n)).few_latches)
-
-pub power-requires-2 : goal.power-requires-2
-power-requires-2 c =
-    let n = (pair_number ((rw (c.shorter-old_room.ensures, c.shorter.ensures) at c.prepare-old_prepared.ensures)) ((rw (c.shorter-new_room.ensures, c.shorter-2.ensures) at c.prepare-new_prepared.ensures)) c.both_number-number.ensures).none c.if-number-ne0.false in
-    omega (arith, (sound_table _ _ _ (new_free _ _ _ _ _ _ n)).few_latches)
-
-pub power-requires-3 : goal.power-requires-3
-power-requires-3 c =
-    let n = (pair_number ((rw (c.shorter-old_room.ensures, c.shorter.ensures) at c.prepare-old_prepared.ensures)) ((rw (c.shorter-new_room.ensures, c.shorter-2.ensures) at c.prepare-new_prepared.ensures)) c.both_number-number.ensures).none c.if-number-ne0.false in
-    omega (arith, (sound_table _ _ _ (old_free _ _ _ _ _ _ n)).few_inputs)
-
-pub returns : goal.returns
-returns c =
-    let e = c.if-number-ne0.false in
-    let p = (rw (c.shorter-old_room.ensures, c.shorter.ensures) at c.prepare-old_prepared.ensures) in
-    let q = (rw (c.shorter-new_room.ensures, c.shorter-2.ensures) at c.prepare-new_prepared.ensures) in
-    let t = c.both_number-number.ensures in
+pub returns-clause-tabulates_both : goal.returns-clause-tabulates_both
+returns-clause-tabulates_both c =
+    let p = rw c.room.ensures at c.prepare-old_prepared.ensures in
+    let q = rw c.room-2.ensures at c.prepare-new_prepared.ensures in
+    let t0 = held_in c.args.old_table.now in
+    let t1 = held_in c.args.new_table.now in
+    let u0 = held_in c.clear.new.self in
+    let u1 = held_in c.clear-2.new.self in
+    let x = c.clear.ensures in
+    let y = c.clear-2.ensures in
+    let n = c.in_ok-old_prepared in
+    let b0 = old_begins _ _ _ _ _ _ c.prepare-old_prepared.result c.prepare-new_prepared.result c.both-either.result c.interface.result p q c.both-either.ensures c.interface.ensures n.old_prepared n.new_prepared n.field-0-1 n.ensures in
+    let b1 = new_begins _ _ _ _ _ _ c.prepare-old_prepared.result c.prepare-new_prepared.result c.both-either.result c.interface.result p q c.both-either.ensures c.interface.ensures n.old_prepared n.new_prepared n.field-0-1 n.ensures in
     record {
-      keeps = ((pair_number p q t).none e, record { old_states = c.power.ensures.0; new_states = c.power-2.ensures.0; vectors = c.power-3.ensures.0; old = prepared_holds p (old_none p q t e) (c.write.ensures.filled e); new = prepared_holds q (new_none p q t e) (c.write-2.ensures.filled e) });
-      old_room = c.write.ensures.room;
-      new_room = c.write-2.ensures.room;
+      keeps = (
+        pair_free _ _ _ _ _ _ c.prepare-old_prepared.result c.prepare-new_prepared.result c.both-either.result c.interface.result p q c.both-either.ensures c.interface.ensures n.old_prepared n.new_prepared n.field-0-1 n.ensures,
+        record {
+          old_states = c.power.ensures.0;
+          new_states = c.power-2.ensures.0;
+          vectors = c.power-3.ensures.0;
+          old = filled_holds t0 u0 x.next x.out x.seen b0 c.fill.ensures.filled;
+          new = filled_holds t1 u1 y.next y.out y.seen b1 c.fill-2.ensures.filled;
+        },
+      );
+      old_room = filled_room t0 u0 x.next x.out x.seen b0 c.fill.ensures.filled;
+      new_room = filled_room t1 u1 y.next y.out y.seen b1 c.fill-2.ensures.filled;
     }

@@ -1,24 +1,14 @@
 -- One clock of a design.
---   StepValues         what a clock gives: the next state and the output
---   clock_reply r       the number or the values of each answer
 --   ClockFault d s v n number n applies to a clock of the design d from state s under vector v
 --   IsStep d s v a     a is that clock
 --   Clocks d s v r     the answer r is right
-use Rattle.std.specs.Prelude.{ℕ, ◌≤◌, ◌≡◌}
-use Rattle.memory.specs.Meaning.Refusals.{Reply, answer, refusal, Keeps}
+use Rattle.std.specs.Prelude.{ℕ, ◌≤◌, ◌≡◌, Result}
+use Rattle.memory.specs.declared.Refusal.{Refusal}
+use Rattle.memory.specs.Meaning.Refusals.{reply_of, Keeps}
 use Rattle.netlist.specs.declared.Design.{Design}
 use Rattle.netlist.specs.Meaning.Nets.{states_of, vectors_of, next_state, outputs}
 use Rattle.netlist.specs.Meaning.Faults.{DesignFault}
-use Rattle.simulator.specs.declared.Clocked.{Clocked}
-
-pub record StepValues : Type 0 where
-  pub next : ℕ
-  pub out : ℕ
-
--- "a definition gives this paper's number and values for each of its cases"
-abbrev pub clock_reply : Clocked → Reply StepValues
-clock_reply (Clocked.Step n o) = answer (record { next = n; out = o })
-clock_reply (Clocked.Refused n) = refusal n
+use Rattle.evaluator.specs.declared.Stepped.{Stepped}
 
 -- "Every call that takes a design in memory looks for 3, 5 and 9 in it again"; "14 a state or vector not below its count"
 pub data ClockFault (d : Design) (s v : ℕ) : ℕ → Type 0 where
@@ -27,10 +17,10 @@ pub data ClockFault (d : Design) (s v : ℕ) : ℕ → Type 0 where
   vector : vectors_of d ≤ v → ClockFault d s v 14
 
 -- "One step from a state under a vector gives outputs from the values before the clock, and the next state"
-pub record IsStep (d : Design) (s v : ℕ) (a : StepValues) : Type 0 where
+pub record IsStep (d : Design) (s v : ℕ) (a : Stepped) : Type 0 where
   pub next : a.next ≡ next_state d s v
   pub out : a.out ≡ outputs d s v
 
 -- a clock writes no slice
-pub record Clocks (d : Design) (s v : ℕ) (r : Clocked) : Type 0 where
-  pub keeps : Keeps (ClockFault d s v) (IsStep d s v) (Unit {0}) (clock_reply r)
+pub record Clocks (d : Design) (s v : ℕ) (r : Result Stepped Refusal) : Type 0 where
+  pub keeps : Keeps (ClockFault d s v) (IsStep d s v) (Unit {0}) (reply_of r)

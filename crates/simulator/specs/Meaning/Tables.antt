@@ -2,23 +2,22 @@
 --   size_of d                    entries of a table
 --   Gives d f l                 the slice l gives what f does of each state of the design d under each vector; HoldsEach d f l the same, and zero beyond
 --   GivesDesign d w t           the slices t give every clock of d with the watched nets w; HoldsDesign d w t the same, and zero beyond
---   TableSizes, BothSizes       what tabulating gives: S and V; S of the old design, S of the new, and V
---   table_reply r, both_reply r   the number or the values of each answer
 --   TableFault d w room k       number k applies to tabulating d, with the watched nets w, into slices of which the shortest has room bytes
 --   InterfaceFault a b w0 w1 k  number k applies to comparing the designs a and b, of which the nets w0 and w1 are watched
 --   BothFault a b w0 w1 room0 room1 k   number k applies to tabulating both
 --   IsTable, AreTables          what an answer says
 --   Tabulates, TabulatesBoth    the answer is right, and so is what the slices hold
-use Rattle.std.specs.Prelude.{ℕ, ◌+◌, ◌*◌, ◌<◌, ◌≡◌, List, length, get_or}
-use Rattle.memory.specs.Meaning.Refusals.{Reply, answer, refusal, Keeps}
+use Rattle.std.specs.Prelude.{ℕ, ◌+◌, ◌*◌, ◌<◌, ◌≡◌, List, length, get_or, Result}
+use Rattle.memory.specs.declared.Refusal.{Refusal}
+use Rattle.memory.specs.Meaning.Refusals.{reply_of, Keeps}
 use Rattle.memory.specs.Meaning.Slices.{ZeroFrom}
 use Rattle.memory.specs.Meaning.Tables.{Table, Lengths, lengths_of, shortest_of, ZeroTable}
 use Rattle.netlist.specs.declared.Design.{Design}
 use Rattle.netlist.specs.Meaning.Nets.{states_of, vectors_of, next_state, outputs}
 use Rattle.netlist.specs.Meaning.Faults.{DesignFault}
 use Rattle.netlist.specs.Meaning.Watched.{watched, WatchFault}
-use Rattle.simulator.specs.declared.Tabulated.{Tabulated}
-use Rattle.simulator.specs.declared.TabulatedBoth.{TabulatedBoth}
+use Rattle.simulator.specs.declared.TableSizes.{TableSizes}
+use Rattle.simulator.specs.declared.BothSizes.{BothSizes}
 
 -- "two table slices a design, S × V bytes each"; §9: "a third table slice of S × V bytes for watched values"
 abbrev pub size_of : Design → ℕ
@@ -43,24 +42,6 @@ pub record HoldsDesign (d : Design) (w : List ℕ) (t : Table) : Type 0 where
   pub next : HoldsEach d (next_state d) t.next
   pub out : HoldsEach d (outputs d) t.out
   pub seen : HoldsEach d (watched d w) t.seen
-
-pub record TableSizes : Type 0 where
-  pub states : ℕ
-  pub vectors : ℕ
-
-pub record BothSizes : Type 0 where
-  pub old : ℕ
-  pub new : ℕ
-  pub vectors : ℕ
-
--- "a definition gives this paper's number and values for each of its cases"
-abbrev pub table_reply : Tabulated → Reply TableSizes
-table_reply (Tabulated.Table s v) = answer (record { states = s; vectors = v })
-table_reply (Tabulated.Refused n) = refusal n
-
-abbrev pub both_reply : TabulatedBoth → Reply BothSizes
-both_reply (TabulatedBoth.Both s0 s1 v) = answer (record { old = s0; new = s1; vectors = v })
-both_reply (TabulatedBoth.Refused n) = refusal n
 
 -- "Every call that takes a design in memory looks for 3, 5 and 9 in it again"; 5 and 21 of the watched nets; "12 a table .. slice too short"
 pub data TableFault (d : Design) (w : List ℕ) (room : ℕ) : ℕ → Type 0 where
@@ -94,11 +75,11 @@ pub record AreTables (a b : Design) (w0 w1 : List ℕ) (t0 t1 : Table) (z : Both
   pub new : HoldsDesign b w1 t1
 
 -- the slices have n bytes when they are lent, and keep them
-pub record Tabulates (d : Design) (w : List ℕ) (n : Lengths) (r : Tabulated) (t : Table) : Type 0 where
-  pub keeps : Keeps (TableFault d w (shortest_of n)) (IsTable d w t) (ZeroTable t) (table_reply r)
+pub record Tabulates (d : Design) (w : List ℕ) (n : Lengths) (r : Result TableSizes Refusal) (t : Table) : Type 0 where
+  pub keeps : Keeps (TableFault d w (shortest_of n)) (IsTable d w t) (ZeroTable t) (reply_of r)
   pub room : lengths_of t ≡ n
 
-pub record TabulatesBoth (a b : Design) (w0 w1 : List ℕ) (n0 n1 : Lengths) (r : TabulatedBoth) (t0 t1 : Table) : Type 0 where
-  pub keeps : Keeps (BothFault a b w0 w1 (shortest_of n0) (shortest_of n1)) (AreTables a b w0 w1 t0 t1) (ZeroTable t0 × ZeroTable t1) (both_reply r)
+pub record TabulatesBoth (a b : Design) (w0 w1 : List ℕ) (n0 n1 : Lengths) (r : Result BothSizes Refusal) (t0 t1 : Table) : Type 0 where
+  pub keeps : Keeps (BothFault a b w0 w1 (shortest_of n0) (shortest_of n1)) (AreTables a b w0 w1 t0 t1) (ZeroTable t0 × ZeroTable t1) (reply_of r)
   pub old_room : lengths_of t0 ≡ n0
   pub new_room : lengths_of t1 ≡ n1

@@ -1,9 +1,7 @@
 -- What was read of standard input.
---   Within i room   the bytes that were read stand within the room
-use Rattle.std.specs.Prelude.{ℕ, ◌≤◌, List, length}
-use Rattle.streams.specs.declared.Input.{Input}
-use Rattle.streams.specs.declared.Input.TheVariants.{Read, Failed}
+--   Within i room   the i bytes that were read, if no read failed, stand within the room
+use Rattle.std.specs.Prelude.{ℕ, ◌≤◌, List, length, Option, Some, None}
 
-abbrev pub Within : Input → List ℕ → Type 0
-Within (Read n) room = n ≤ length room
-Within Failed room = Unit {0}
+abbrev pub Within : Option ℕ → List ℕ → Type 0
+Within (Some n) room = n ≤ length room
+Within None room = Unit {0}

@@ -1,54 +1,40 @@
--- `align`: each turn is one round. Outputs and watched values play no part in it, so what holds of one table holds whatever they are.
-use mathlib.Core.Path.{refl, ◌∙◌}
+-- `align`: each turn is one round.
 use native.Mathlib.Omega.{arith}
+use lib.ListN.{length}
+use Rattle.memory.specs.Meaning.Slices.{Cleared}
 use Rattle.finding.proofs.Lists.{ready}
-use Rattle.verdict.proofs.Aligning.{leading_old, leading_new, aligning_start, aligned, found_under, no_room, added_fits, part_below, falls, aligning_more, its_part}
+use Rattle.verdict.proofs.Aligning.{aligning_start, aligned, no_room, added_fits, part_below, falls, aligning_more, its_part}
+use Rattle.std.proofs.lemmas.Grind.{common_steps}
 use Rattle.verdict.proofs.align.Goals as goal
 
-pub total-end-requires : goal.total-end-requires
-total-end-requires c = c.requires.reaches.has.good.nexts.few
+pub loop-i-init : goal.loop-i-init
+loop-i-init c = aligning_start _ c.requires.reached _
 
-pub loop-sizes-init : goal.loop-sizes-init
-loop-sizes-init c = (refl, λ o0 s0 o1 s1 m. aligning_start _ m _)
+pub append-requires-clause-ready : goal.append-requires-clause-ready
+append-requires-clause-ready c = ready _ c.requires.reached.good c.requires.reached.alike
 
-pub lowest_open-i-requires : goal.lowest_open-i-requires
-lowest_open-i-requires c = record { few = c.requires.reaches.has.good.nexts.few; sizes_in_bounds = c.requires.reaches.has.room }
+pub returns-in_default-append : goal.returns-in_default-append
+returns-in_default-append c =
+    let z : Cleared (length c.append.new.list) c.fill.new.self = grind (arith, common_steps) in
+    no_room _ c.requires.reached c.loop-i.invariant c.in-Some.ensures c.pair_at-p.ensures.0 c.requires.zero c.in_default-append.ensures c.append.auto.list z
 
-pub pair_at-p-requires : goal.pair_at-p-requires
-pair_at-p-requires c = found_under _ c.requires.reaches.has (c.loop-sizes.invariant.1 _ _ _ _ c.requires.reaches.has) c.lowest_open-i.ensures c.if-i-end.false c.total-end.ensures.0
+pub overflow_add-steps : goal.overflow_add-steps
+overflow_add-steps c = omega (arith, (its_part c.in-Ok.ensures).fits, c.loop-i.invariant.long)
 
-pub append-found-requires : goal.append-found-requires
-append-found-requires c =
-    let m = c.requires.reaches.has in
-    record { walk = record { nexts = m.good.nexts; room = m.room }; ready = ready _ m.good m.alike; fact = c.pair_at-p.ensures.1; p_nonzero = m.some _ c.pair_at-p.ensures.1; len_in_bounds = (c.loop-sizes.invariant.1 _ _ _ _ m).under }
+pub slice_bounds-steps-end : goal.slice_bounds-steps-end
+slice_bounds-steps-end c = added_fits _ c.requires.reached c.loop-i.invariant c.in-Some.ensures c.pair_at-p.ensures.0 (its_part c.in-Ok.ensures)
 
-pub returns-in_default : goal.returns-in_default
-returns-in_default c = record { each = λ o0 s0 o1 s1 m. no_room _ m (c.loop-sizes.invariant.1 o0 s0 o1 s1 m) c.lowest_open-i.ensures c.if-i-end.false c.total-end.ensures.0 c.pair_at-p.ensures.0 c.requires.zero (rw c.in_default.is at c.append-found.ensures) c.append-found.auto.list c.clear_bytes.ensures }
+pub spread-next_old-requires-clause-by_index : goal.spread-next_old-requires-clause-by_index
+spread-next_old-requires-clause-by_index c = part_below _ c.requires.reached c.loop-i.invariant c.in-Some.ensures c.pair_at-p.ensures.0 (its_part c.in-Ok.ensures)
 
-pub overflow_add-to : goal.overflow_add-to
-overflow_add-to c = omega (arith, (its_part (rw c.in-Steps.is at c.append-found.ensures)).fits, c.loop-sizes.invariant.0)
+pub spread-next_new-requires-clause-by_index : goal.spread-next_new-requires-clause-by_index
+spread-next_new-requires-clause-by_index c = part_below _ c.requires.reached c.loop-i.invariant c.in-Some.ensures c.pair_at-p.ensures.0 (its_part c.in-Ok.ensures)
 
-pub spread-next_old-requires : goal.spread-next_old-requires
-spread-next_old-requires c =
-    let m = c.requires.reaches.has in
-    let a = (its_part (rw c.in-Steps.is at c.append-found.ensures)) in
-    record { leading = leading_old _ m; from_le_to = omega arith; to_in_bounds = added_fits _ m (c.loop-sizes.invariant.1 _ _ _ _ m) c.lowest_open-i.ensures c.if-i-end.false c.total-end.ensures.0 c.pair_at-p.ensures.0 a; by_index = part_below _ m (c.loop-sizes.invariant.1 _ _ _ _ m) c.lowest_open-i.ensures c.if-i-end.false c.total-end.ensures.0 c.pair_at-p.ensures.0 a }
+pub loop-i-smaller : goal.loop-i-smaller
+loop-i-smaller c = falls _ c.requires.reached c.loop-i.invariant c.in-Some.ensures c.pair_at-p.ensures.0 (its_part c.in-Ok.ensures)
 
-pub spread-next_new-requires : goal.spread-next_new-requires
-spread-next_new-requires c =
-    let m = c.requires.reaches.has in
-    let a = (its_part (rw c.in-Steps.is at c.append-found.ensures)) in
-    record { leading = leading_new _ m; from_le_to = omega arith; to_in_bounds = added_fits _ m (c.loop-sizes.invariant.1 _ _ _ _ m) c.lowest_open-i.ensures c.if-i-end.false c.total-end.ensures.0 c.pair_at-p.ensures.0 a; by_index = part_below _ m (c.loop-sizes.invariant.1 _ _ _ _ m) c.lowest_open-i.ensures c.if-i-end.false c.total-end.ensures.0 c.pair_at-p.ensures.0 a }
-
-pub loop-sizes-smaller : goal.loop-sizes-smaller
-loop-sizes-smaller c =
-    let m = c.requires.reaches.has in
-    falls _ m (c.loop-sizes.invariant.1 _ _ _ _ m) c.lowest_open-i.ensures c.if-i-end.false c.total-end.ensures.0 c.pair_at-p.ensures.0 (its_part (rw c.in-Steps.is at c.append-found.ensures))
-
-pub loop-sizes-preserved : goal.loop-sizes-preserved
-loop-sizes-preserved c =
-    let a = its_part (rw c.in-Steps.is at c.append-found.ensures) in
-    (a.long ∙ c.loop-sizes.invariant.0, λ o0 s0 o1 s1 m. aligning_more _ m (c.loop-sizes.invariant.1 o0 s0 o1 s1 m) c.lowest_open-i.ensures c.if-i-end.false c.total-end.ensures.0 c.pair_at-p.ensures.0 a c.spread-next_old.ensures c.spread-next_new.ensures)
+pub loop-i-preserved : goal.loop-i-preserved
+loop-i-preserved c = aligning_more _ c.requires.reached c.loop-i.invariant c.in-Some.ensures c.pair_at-p.ensures.0 (its_part c.in-Ok.ensures) c.spread-next_old.ensures c.spread-next_new.ensures
 
 pub returns : goal.returns
-returns c = record { each = λ o0 s0 o1 s1 m. aligned _ m (c.loop-sizes.invariant.1 o0 s0 o1 s1 m) c.lowest_open-i.ensures (c.if-i-end.true ∙ c.total-end.ensures.0) }
+returns c = aligned _ c.requires.reached c.loop-i.invariant c.in_default.ensures

@@ -3,8 +3,5 @@ use Rattle.verdict.proofs.Parts.{appended}
 use native.Mathlib.Omega.{arith}
 use Rattle.verdict.proofs.append.Goals as goal
 
-pub find_list-requires : goal.find_list-requires
-find_list-requires c = record { walk = c.requires.walk; ready = c.requires.ready; fact = c.requires.fact }
-
 pub returns : goal.returns
 returns c = appended _ _ _ c.requires.len_in_bounds c.find_list.auto.list (λ e. omega (arith, c.requires.p_nonzero)) _ (rw c.prior_at-prior.ensures at c.find_list.ensures)

@@ -1,36 +1,47 @@
 -- `judge`: turned away at once, or decided by the two maps.
-use mathlib.Core.Path.{refl, sym, ◌∙◌}
+use mathlib.Core.Path.{◌≡◌, refl, ◌∙◌}
+use native.Mathlib.Omega.{arith}
+use lib.ListN.{length}
+use Rattle.memory.specs.Meaning.Slices.{Cleared}
+use Rattle.std.proofs.lemmas.Grind.{common_steps}
 use Rattle.seek.proofs.Accepted.{good}
-use Rattle.seek.proofs.Sets.{begun, with_begun}
+use Rattle.seek.proofs.Sets.{begun}
 use Rattle.verdict.proofs.Judging.{judged_refused, enough, mapped, judged}
 use Rattle.verdict.proofs.judge.Goals as goal
 
-pub returns-then-n-ne0 : goal.returns-then-n-ne0
-returns-then-n-ne0 c = judged_refused _ _ c.if-n-ne0.true ((rw c.shorter-room.ensures at c.vectors_fault-n.ensures).each c.args.old_out.now c.args.old_seen.now c.args.new_out.now c.args.new_seen.now (record { old = sym c.shorter-old_shown.ensures; new = sym c.shorter-new_shown.ensures })) c.clear_scratch.ensures.cleared c.clear_scratch.ensures.cleared_2 c.clear_bytes.ensures c.without_counts.ensures
+pub returns-in-Err-clause-judges : goal.returns-in-Err-clause-judges
+returns-in-Err-clause-judges c =
+    let z : Cleared (length c.args.list.now) c.fill.new.self = grind (arith, common_steps) in
+    judged_refused _ _ (rw c.room-room.ensures at c.in-Err.ensures) c.clear.ensures.depth c.clear.ensures.reach z c.refused.ensures
 
-pub differ-requires : goal.differ-requires
-differ-requires c =
-    let e = enough (((rw c.shorter-room.ensures at c.vectors_fault-n.ensures).each c.args.old_out.now c.args.old_seen.now c.args.new_out.now c.args.new_seen.now (record { old = sym c.shorter-old_shown.ensures; new = sym c.shorter-new_shown.ensures })).none c.if-n-ne0.false) refl refl in
-    record { ample = e.0.outs; ample_2 = e.0.seens; sizes_in_bounds = e.1.1 }
+pub differ-requires-clause-outs : goal.differ-requires-clause-outs
+differ-requires-clause-outs c = (good c.in_default.ensures).outs
 
-pub map_both-tally-requires : goal.map_both-tally-requires
-map_both-tally-requires c =
-    let e = enough (((rw c.shorter-room.ensures at c.vectors_fault-n.ensures).each c.args.old_out.now c.args.old_seen.now c.args.new_out.now c.args.new_seen.now (record { old = sym c.shorter-old_shown.ensures; new = sym c.shorter-new_shown.ensures })).none c.if-n-ne0.false) refl c.differ.ensures.long in
-    record { with_some = with_begun _ (begun _ e.0 c.differ.ensures); sizes_in_bounds = e.1.0; sizes_in_bounds_2 = e.1.1 }
+pub differ-requires-clause-seens : goal.differ-requires-clause-seens
+differ-requires-clause-seens c = (good c.in_default.ensures).seens
 
-pub decide-verdict-requires : goal.decide-verdict-requires
-decide-verdict-requires c =
-    let none = ((rw c.shorter-room.ensures at c.vectors_fault-n.ensures).each c.args.old_out.now c.args.old_seen.now c.args.new_out.now c.args.new_seen.now (record { old = sym c.shorter-old_shown.ensures; new = sym c.shorter-new_shown.ensures })).none c.if-n-ne0.false in
-    record { mapped = mapped none c.map_both-tally.auto.depth (c.map_both-tally.auto.reach ∙ c.differ.ensures.long) (c.map_both-tally.ensures.with_each.each _ _ _ _ (begun _ (good none) c.differ.ensures)); lowest_below = c.map_both-tally.ensures.lowest_below; zero = c.clear_bytes.ensures.zero }
+pub differ-requires-clause-sizes_in_bounds : goal.differ-requires-clause-sizes_in_bounds
+differ-requires-clause-sizes_in_bounds c = (enough (rw c.room-room.ensures at c.in_default.ensures) refl refl).1.1
 
-pub shape_of-reach : goal.shape_of-reach
-shape_of-reach c = c.clear_scratch-2.ensures.cleared_2.size ∙ c.decide-verdict.auto.reach ∙ c.map_both-tally.auto.reach ∙ c.differ.ensures.long
+pub map_both-tally-requires-clause-begun : goal.map_both-tally-requires-clause-begun
+map_both-tally-requires-clause-begun c = begun _ (good c.in_default.ensures) c.differ.ensures
 
-pub shape_of-list : goal.shape_of-list
-shape_of-list c = c.decide-verdict.auto.list ∙ c.clear_bytes.ensures.size
+pub map_both-tally-requires-clause-depth_in_bounds : goal.map_both-tally-requires-clause-depth_in_bounds
+map_both-tally-requires-clause-depth_in_bounds c = (enough (rw c.room-room.ensures at c.in_default.ensures) refl refl).1.0
 
-pub returns : goal.returns
-returns c =
-    let none = ((rw c.shorter-room.ensures at c.vectors_fault-n.ensures).each c.args.old_out.now c.args.old_seen.now c.args.new_out.now c.args.new_seen.now (record { old = sym c.shorter-old_shown.ensures; new = sym c.shorter-new_shown.ensures })).none c.if-n-ne0.false in
+pub map_both-tally-requires-clause-reach_in_bounds : goal.map_both-tally-requires-clause-reach_in_bounds
+map_both-tally-requires-clause-reach_in_bounds c = (enough (rw c.room-room.ensures at c.in_default.ensures) refl c.differ.ensures.long).1.1
+
+pub decide-verdict-requires-clause-mapped : goal.decide-verdict-requires-clause-mapped
+decide-verdict-requires-clause-mapped c =
     let maps = c.map_both-tally.ensures in
-    judged _ _ none c.decide-verdict.result c.decide-verdict.ensures (maps.with_each.each _ _ _ _ (begun _ (good none) c.differ.ensures)) maps.map_counts c.with_counts.ensures c.map_both-tally.auto.depth (c.map_both-tally.auto.reach ∙ c.differ.ensures.long) c.clear_scratch-2.ensures.cleared c.clear_scratch-2.ensures.cleared_2 c.decide-verdict.auto.reach c.clear_bytes.ensures.size c.decide-verdict.auto.list
+    mapped (rw c.room-room.ensures at c.in_default.ensures) maps.depth_kept (maps.reach_kept ∙ c.differ.ensures.long) maps.both
+
+pub returns-clause-judges : goal.returns-clause-judges
+returns-clause-judges c =
+    let maps = c.map_both-tally.ensures in
+    let kept = c.decide-verdict.ensures in
+    let reach : length c.map_both-tally.new.scratch.reach.now ≡ length c.args.scratch.now.reach.now = maps.reach_kept ∙ c.differ.ensures.long in
+    let z : Cleared (length c.args.list.now) c.fill.new.self = grind (arith, common_steps) in
+    judged _ _ (rw c.room-room.ensures at c.in_default.ensures) c.decide-verdict.result kept.settled maps.both maps.map_counts c.with_counts.ensures maps.depth_kept reach
+    (rw (kept.depth_kept ∙ maps.depth_kept) at c.clear-2.ensures.depth) (rw (kept.reach_kept ∙ reach) at c.clear-2.ensures.reach) z.size kept.list_kept

@@ -1,6 +1,4 @@
 -- The decision on two machines, and the list that is written beside it. Ok is the set of the vectors that may be fed.
---   Decision                  Same, or Apart with its pair; and how many steps its list or trace has
---   verdict_reply r            the number and the values of each case of the answer
 --   steps_of x                 how many steps are written
 --   Says m0 m1 Ok z l x       the decision x is right, with the list l
 --   Decided m0 m1 Ok z list x and that list stands at the front of the list slice, with all beyond it 0
@@ -9,37 +7,27 @@
 --   ShortList m0 m1 Ok z n k  number k, 16, applies to a list slice of n bytes
 use Rattle.std.specs.Prelude.{◌≡◌, List, ℕ, ◌<◌, length}
 use Rattle.memory.specs.Meaning.Refusals.{Reply, answer, refusal}
-use Rattle.machine.specs.declared.Pair.{Pair}
 use Rattle.machine.specs.declared.Sizes.{Sizes}
 use Rattle.machine.specs.Meaning.Machine.{Machine, Alike, Alignable}
 use Rattle.machine.specs.Meaning.Counts.{Counts}
 use Rattle.machine.specs.Meaning.Verdict.{IsSame, IsApart, VerdictList}
 use Rattle.machine.specs.Meaning.Lent.{Listed}
 use Rattle.verdict.specs.declared.Verdict.{Verdict}
+use Rattle.verdict.specs.declared.Verdict.TheVariants.{Same, Apart}
 
 -- "the verdict with its list's length"; "Apart .. names the lowest such pair, with its trace"
-pub data Decision : Type 0 where
-  same : ℕ → Decision
-  apart : Pair → ℕ → Decision
-
--- "a definition gives this paper's number and values for each of its cases"
-abbrev pub verdict_reply : Verdict → Reply Decision
-verdict_reply (Verdict.Same n) = answer (same n)
-verdict_reply (Verdict.Apart p n) = answer (apart p n)
-verdict_reply (Verdict.Refused n) = refusal n
-
-abbrev pub steps_of : Decision → ℕ
-steps_of (same n) = n
-steps_of (apart p n) = n
+abbrev pub steps_of : Verdict → ℕ
+steps_of (Same n) = n
+steps_of (Apart p n) = n
 
 module _ (m0 m1 : Machine) (Ok : ℕ → Type 0) (z : Sizes) where
   -- "Apart if some pair isn't alignable .. Else it is Same"
-  abbrev pub Says : List ℕ → Decision → Type 0
-  Says l (same n) = IsSame m0 m1 Ok z l
-  Says l (apart p n) = IsApart m0 m1 Ok z p l
+  abbrev pub Says : List ℕ → Verdict → Type 0
+  Says l (Same n) = IsSame m0 m1 Ok z l
+  Says l (Apart p n) = IsApart m0 m1 Ok z p l
 
   -- "After an answer the part beyond it is zero"
-  abbrev pub Decided : List ℕ → Decision → Type 0
+  abbrev pub Decided : List ℕ → Verdict → Type 0
   Decided list x = Listed (λ l. Says l x) list (steps_of x)
 
   -- "alike pairs and all pairs; alignable pairs and all pairs"
@@ -48,7 +36,7 @@ module _ (m0 m1 : Machine) (Ok : ℕ → Type 0) (z : Sizes) where
     pub alignable : Counts (Alignable m0 m1 Ok) z k
 
   -- "The lowest applicable number is returned, with nothing else"
-  abbrev pub CountsBeside : Reply Decision → ℕ → ℕ → Type 0
+  abbrev pub CountsBeside : Reply Verdict → ℕ → ℕ → Type 0
   CountsBeside (answer x) n k = CountsPairs n k
   CountsBeside (refusal m) n k = (n ≡ 0) × (k ≡ 0)
 

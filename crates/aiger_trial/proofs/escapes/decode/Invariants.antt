@@ -1,9 +1,9 @@
--- `decode`: a turn a byte; the first n bytes are written.
-use Rattle.std.proofs.Common.{◌-◌, ◌≤◌, length}
+-- `decode`: a turn an escape or a byte; the first n bytes are written.
+use Rattle.std.proofs.Common.{◌≤◌, length}
 use Rattle.aiger_trial.proofs.escapes.decode.Given as goal
 
-abbrev pub invariant-loop-at : goal.invariant-loop-at
-invariant-loop-at l = l.n ≤ length l.text
+abbrev pub invariant-loop-rest : goal.invariant-loop-rest
+invariant-loop-rest l = l.n ≤ length l.text
 
-abbrev pub decreases-loop-at : goal.decreases-loop-at
-decreases-loop-at l = length l.text - l.n
+abbrev pub decreases-loop-rest : goal.decreases-loop-rest
+decreases-loop-rest l = length l.rest

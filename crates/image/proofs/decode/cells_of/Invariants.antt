@@ -1,5 +1,4 @@
 -- `cells_of`: the cells passed are the image's, and the others blank.
-use Prim.Native.Nat.{◌-◌, ◌≤◌}
 use Rattle.memory.specs.Working.Filling.{Filled}
 use Rattle.netlist.specs.Meaning.Gates.{blank_cell}
 use Rattle.limits.specs.Meaning.Limits.{most_cells}
@@ -7,7 +6,4 @@ use Rattle.format.specs.Meaning.Format.{cell_in}
 use Rattle.image.proofs.decode.cells_of.Given as goal
 
 abbrev pub invariant-loop-i : goal.invariant-loop-i
-invariant-loop-i l = (l.i ≤ l.count) × Filled (cell_in l.image) blank_cell most_cells l.i l.cells
-
-abbrev pub decreases-loop-i : goal.decreases-loop-i
-decreases-loop-i l = l.count - l.i
+invariant-loop-i l = Filled (cell_in l.image) blank_cell most_cells l.i l.cells

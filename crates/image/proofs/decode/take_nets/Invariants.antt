@@ -1,11 +1,8 @@
 -- `take_nets`: the nets passed are the image's.
-use Prim.Native.Nat.{◌+◌, ◌-◌, ◌*◌, ◌≤◌}
+use Prim.Native.Nat.{◌+◌, ◌*◌}
 use Rattle.format.specs.Meaning.Format.{tail_in}
 use Rattle.image.specs.Working.Taking.{Takes}
 use Rattle.image.proofs.decode.take_nets.Given as goal
 
 abbrev pub invariant-loop-k : goal.invariant-loop-k
-invariant-loop-k l = (l.k ≤ l.n) × Takes (λ j. tail_in l.image (l.step * j + l.t)) l.k l.initial.nets l.nets
-
-abbrev pub decreases-loop-k : goal.decreases-loop-k
-decreases-loop-k l = l.n - l.k
+invariant-loop-k l = Takes (λ j. tail_in l.image (l.step * j + l.t)) l.k l.initial.nets l.nets

@@ -5,4 +5,4 @@ use Rattle.pieces.proofs.Putting.{put_within, put_then}
 use Rattle.report.proofs.lines.put_vector.Goals as goal
 
 pub returns : goal.returns
-returns c = put_within (vector_short c.args.vector (omega arith)) (put_then c.put_number-fed.ensures c.put_word.ensures)
+returns c = put_within (vector_short c.args.vector (omega arith)) (put_then c.put_number.ensures c.put_word.ensures)

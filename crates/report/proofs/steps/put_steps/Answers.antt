@@ -1,22 +1,15 @@
--- `put_steps`: the lines of the steps passed stand in the text, and both designs are in the pair reached.
+-- `put_steps`: the next step's line stands behind the others, and both designs move on.
 use mathlib.Core.Path.{ap₂}
 use native.Mathlib.Omega.{arith}
 use Rattle.report.specs.Meaning.Text.{shown_line}
-use Rattle.report.proofs.Listing.{listed_none, listed_more, listed_all}
+use Rattle.report.proofs.Listing.{listed_more}
 use Rattle.report.proofs.steps.put_steps.Goals as goal
 
-pub loop-i-init : goal.loop-i-init
-loop-i-init c = (omega arith, c.requires.small, listed_none _ _ 12 _ _ _ _)
-
-pub loop-i-preserved : goal.loop-i-preserved
-loop-i-preserved c = (
-  omega arith,
-  c.next_pair-after.ensures.1,
-  listed_more _ _ (omega arith) c.loop-i.invariant.2 c.wide-vector.ensures.0
+pub loop-byte-preserved : goal.loop-byte-preserved
+loop-byte-preserved c = (
+  c.next_pair-q.ensures.1,
+  listed_more _ _ (omega arith) c.loop-byte.invariant.1 c.from-vector.ensures
       (ap₂ (shown_line _) c.entry_at-old.ensures.0 c.entry_at-new.ensures.0)
-      c.next_pair-after.ensures.0
-      c.put_step-end.ensures,
+      c.next_pair-q.ensures.0
+      c.put_step.ensures,
 )
-
-pub returns : goal.returns
-returns c = listed_all _ _ c.loop-i.invariant.2 (omega arith)

@@ -1,10 +1,10 @@
--- `prepare`: the design's number, that of its watched nets, and that of the slices.
-use Rattle.simulator.proofs.Faults.{drawn_first}
-use Rattle.simulator.proofs.Preparing.{drawn_sound, prepared}
+-- `prepare`: 12 behind the numbers of the design and of its watched nets; else filling can begin.
+use native.Mathlib.Omega.{arith}
+use Rattle.simulator.proofs.Preparing.{prepare_short, prepare_begins}
 use Rattle.simulator.proofs.tables.prepare.Goals as goal
 
-pub table_number-number-requires : goal.table_number-number-requires
-table_number-number-requires c = λ e. drawn_sound ((drawn_first _ _ c.levelize-plan.ensures.first c.take-taken.ensures.first c.earlier_number-drawn.ensures).none e)
+pub returns-then-room-size : goal.returns-then-room-size
+returns-then-room-size c = prepare_short _ _ _ c.levelize-plan.result c.take.result c.levelize-plan.ensures c.take.ensures c.in_ok-watch.watch c.in_ok-watch.ensures (omega (arith, c.size.ensures.0))
 
 pub returns : goal.returns
-returns c = prepared (c.table_number-number.ensures _ (drawn_first _ _ c.levelize-plan.ensures.first c.take-taken.ensures.first c.earlier_number-drawn.ensures)) c.levelize-plan.ensures c.take-taken.ensures
+returns c = prepare_begins _ _ _ c.levelize-plan.result c.take.result c.levelize-plan.ensures c.take.ensures c.in_ok-watch.watch c.in_ok-watch.ensures (omega (arith, c.size.ensures.0))

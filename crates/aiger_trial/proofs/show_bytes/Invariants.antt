@@ -1,9 +1,0 @@
--- `show_bytes`: a turn a byte.
-use Prim.Native.Nat.{◌-◌}
-use Rattle.aiger_trial.proofs.show_bytes.Given as goal
-
-abbrev pub invariant-loop-i : goal.invariant-loop-i
-invariant-loop-i l = Unit {0}
-
-abbrev pub decreases-loop-i : goal.decreases-loop-i
-decreases-loop-i l = l.n - l.i

@@ -1,9 +1,0 @@
--- `panel`: a turn a byte.
-use Prim.Native.Nat.{◌≤◌, ◌-◌}
-use Rattle.align_trial.proofs.lines.panel.Given as goal
-
-abbrev pub invariant-loop-i : goal.invariant-loop-i
-invariant-loop-i l = l.i ≤ 8
-
-abbrev pub decreases-loop-i : goal.decreases-loop-i
-decreases-loop-i l = 8 - l.i

@@ -1,8 +1,0 @@
--- `pick`: a turn a step.
-use Rattle.brute_engine.proofs.lists.pick.Given as goal
-
-abbrev pub invariant-loop-rest : goal.invariant-loop-rest
-invariant-loop-rest l = Unit {0}
-
-abbrev pub decreases-loop-rest : goal.decreases-loop-rest
-decreases-loop-rest l = l.rest

@@ -1,6 +1,0 @@
--- `put_sizes`: four numbers of one line.
-use Rattle.pieces.proofs.Putting.{put_then}
-use Rattle.report.proofs.lines.put_sizes.Goals as goal
-
-pub returns : goal.returns
-returns c = put_then (put_then (put_then c.put_field-inputs.ensures c.put_field-outputs.ensures) c.put_field-latches.ensures) c.put_last_field.ensures
