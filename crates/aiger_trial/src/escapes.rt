@@ -17,6 +17,7 @@ pub(crate) fn decode(spelled: &[u8], text: &mut [u8]) -> Option<usize>
 {
     let (_, mut rest) = spelled.split_first()?;
     let mut n = 0;
+    // a `while`: each turn goes on by what an escape takes, which only reading it tells
     while !rest.is_empty() {
         let next = next_of(rest, n)?;
         text.get_mut(n..next.end)?.fill(next.byte);
@@ -58,7 +59,7 @@ fn zeros(n: usize, rest: &[u8]) -> Option<Spelled<'_>>
     })
 }
 
-// The value of a hexadecimal digit.
+// The value of a hexadecimal digit. By hand: `to_digit` takes small letters too, which spell nothing here.
 fn digit(c: u8) -> Option<u8>
     ensures { IfSome result (λ d. d ≤ 15) }
 {

@@ -39,7 +39,7 @@ pub(crate) fn decode(digits: &[u8], input: &mut [u8]) -> usize
     input.len().min(spelled.len())
 }
 
-// The value of a hexadecimal digit.
+// The value of a hexadecimal digit, 0 of any other byte. By hand: `to_digit` takes small letters too, which are 0 here.
 fn digit(c: u8) -> u8
     ensures { result ≤ 15 }
 {

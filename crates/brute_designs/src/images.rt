@@ -104,7 +104,8 @@ fn end(list: &Plain) -> usize
     end + 18 * list.latches()
 }
 
-// The lowest number that applies to the first n bytes, from which a list was taken, if one does.
+// The lowest number that applies to the first n bytes, from which a list was taken, if one does. One `if` after another, since a test may be
+// slow, or without sense, where an earlier one applies.
 pub fn number(bits: &Bits, n: usize, list: &Plain) -> Option<u8> {
     if n < 4 {
         return Some(1);

@@ -6,6 +6,8 @@ ghost use Rattle.std.specs.Prelude.{◌≤◌};
 
 use netlist::{Cell, Design, Gate};
 
+// Places and no fields of a struct, since reading, spoiling and printing go over all of them in the order of an image.
+//
 // The version of the image that the numbers are taken from or written to.
 pub const VERSION: usize = 0;
 

@@ -7,7 +7,7 @@ ghost use Rattle.std.specs.Prelude.{◌≤◌};
 use crate::plain;
 use crate::plain::Plain;
 
-// The lowest of 3, 5 and 9 that applies to a design, if one does.
+// The lowest of 3, 5 and 9 that applies to a design, if one does. Numbers and not `Refusal`, so that a wrong number of a refusal shows.
 pub fn number(list: &Plain) -> Option<u8> {
     if size_over(list) {
         return Some(3);

@@ -58,6 +58,7 @@ fn list<'a, T: Copy + TryFrom<usize, Error: Drop>>(
     }
     let mut len = 0;
     let mut rest = spelled;
+    // a `while`: each turn goes on by what an entry takes, which only reading it tells
     while !matches!(rest, [] | [b' ', ..]) {
         let entry = entry_at(rest, hex)?;
         let value = T::try_from(entry.value).ok()?;
