@@ -72,3 +72,7 @@ whole_allowed b text' k r p = record {
 pub one_sending_allowed : (i : Option ℕ) (room a b : List ℕ) (k l r s : ℕ) → Sends unread_allowed OutputsAllowed i room a k r → Sends unread_allowed OutputsAllowed i room b l s → (k ≡ l) × (take r a ≡ take s b)
 one_sending_allowed i room a b k l r s p q =
     one_answer (λ t c d. (c.stream ∙ sym d.stream, prints_unique (Some (allowed_in t)) (images_in t) a b r s c.prints d.prints)) p.says q.says
+
+module _ (room : List ℕ) {n m : ℕ} (fits : n ≤ length room) (is : m ≡ min 8 n) where
+  pub starts : m ≤ length (got room fits is)
+  starts = omega (arith, long room fits is)

@@ -142,3 +142,8 @@ refused_first {a} {b} {w0} {w1} allowed {n0} {n1} {k} {depth} {reach} {written} 
     split m (CompareFault.scratch l) = inr (omega (arith, place, place_high 12 (omega arith) (omega arith)))
     split m (CompareFault.vectors o) = inr (omega (arith, place, place_20 20 refl))
     split m (CompareFault.list f) = inr (omega (arith, place, short_place f))
+
+-- beside an answer the tables stay
+pub tables_kept : (t : Tables) (v : Result Verdict Refusal) → ((x : Refusal) → v ≡ Err x → ⊥) → KeptOrCleared t (tables_left_of t.old t.new) (reply_of v)
+tables_kept t (Result.Ok x) h = refl
+tables_kept t (Err x) h = absurd (h x refl)

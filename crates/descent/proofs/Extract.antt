@@ -78,3 +78,16 @@ module _ (z : Sizes) (next0 next1 d : List ℕ) where
             ends = rw n g.ends;
             rest = λ i h. g.rest i (omega arith);
           }
+
+-- nothing is written, and all is still to come
+module _ (z : Sizes) (next0 next1 d : List ℕ) (w : Nexts z next0 next1) (c : Ready z next0 next1 d) where
+  pub going_start : (p : Pair) (s : Option ℕ) (list : List ℕ) → Descent z d p list → (x : ℕ) → x ≡ at z d p → Going z next0 next1 d p s list p s 0 (x - 1) list
+  going_start p s list g x e = record {
+    inside = g.inside;
+    sum = omega (arith, g.some);
+    at_k = omega (arith, g.some);
+    joins = λ m f. f;
+    ends = refl;
+    long = refl;
+    rest = λ i h. refl;
+  }

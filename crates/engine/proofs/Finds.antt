@@ -38,7 +38,7 @@ module _ (t : Tables) (s : Lent) (p : Pair) (None : Type 0) (Sought : List ℕ �
   abbrev Wrong : ℕ → Type 0
   Wrong n = PairFault t s p None Sought n
 
-  first_state : {n : ℕ} → First (StateFault t (scratch_of s) p) n → First Wrong n
+  pub first_state : {n : ℕ} → First (StateFault t (scratch_of s) p) n → First Wrong n
   first_state {n} l = first_then (λ m f. PairFault.state f) l (λ m f. go f)
     where
       go : {m : ℕ} → Wrong m → StateFault t (scratch_of s) p m ⊎ (place_in table_order n ≤ place_in table_order m)

@@ -1,5 +1,5 @@
 -- The marks of alike and of alignable pairs, taken from their maps.
-use Prim.Native.Nat.{ℕ, ◌<◌}
+use Prim.Native.Nat.{ℕ, ◌<◌, ◌≤◌, min}
 use mathlib.Core.Path.{◌≡◌, ◌∙◌}
 use mathlib.Core.Logic.{⊎_elim}
 use mathlib.Core.List.{List}
@@ -69,3 +69,7 @@ module _ (t : Tables) (g : Good t) where
 -- the search's number is that of the first round that changes no A_i
 pub alike_round : {t : Tables} {d : List ℕ} {n : ℕ} → MapOf t (DiffersIn t) d n → RoundIn t n
 alike_round {t} {d} {n} m = first_unchanged (old_machine t) (new_machine t) (Ok t.sizes) (In t.sizes) n m.first
+
+-- what fits the shortest of three fits each
+pub fits_each : {k a b c : ℕ} → k ≤ min a (min b c) → (k ≤ a) × (k ≤ b) × (k ≤ c)
+fits_each h = (omega arith, omega arith, omega arith)

@@ -1,18 +1,19 @@
 -- What the flip-flops take, by the values that a sweep leaves.
-use Prim.Native.Nat.{ℕ, ◌+◌, ◌<◌, ◌≤◌}
-use mathlib.Core.Path.{◌≡◌, ◌∙◌}
+use Prim.Native.Nat.{ℕ, ◌+◌, ◌<◌, ◌≤◌, zero, suc, ◌*◌}
+use mathlib.Core.Path.{◌≡◌, ◌∙◌, refl}
 use mathlib.Core.List.{List}
 use native.Mathlib.Omega.{arith}
 use lib.ListN.{get_or}
 use Rattle.numbers.specs.Meaning.Bits.{bit_of, horner}
-use Rattle.numbers.proofs.Digits.{horner_cong}
+use Rattle.numbers.proofs.Digits.{horner_cong, horner_room}
 use Rattle.netlist.specs.declared.Design.{Design}
-use Rattle.netlist.specs.Meaning.Nets.{value, next_bit, next_state}
+use Rattle.netlist.specs.Meaning.Nets.{value, next_bit, next_state, latched}
 use Rattle.netlist.specs.Working.Sound.{Sound}
 use Rattle.netlist.proofs.Values.{value_source}
 use Rattle.evaluator.specs.Working.Values.{Holds, Latchable, latched_in}
 use Rattle.evaluator.proofs.Spreading.{source_latch}
 use Rattle.evaluator.proofs.Sweep.{readable}
+use Rattle.evaluator.proofs.Bounds.{latched_lt}
 
 -- a flip-flop's own net has the bit that it holds
 own_value : (d : Design) (s v k : ℕ) → k < d.latches → value d s v (2 + d.inputs + k) ≡ bit_of d.latches s k
@@ -36,3 +37,29 @@ module _ (d : Design) (s v : ℕ) (vals : List ℕ) (w : Holds (value d s v) val
     where
       few : d.latches ≤ 8
       few = omega (arith, p.few_latches)
+
+-- the three ways of a flip-flop
+pub cleared : (c e x h : ℕ) → (c ≡ 0 → ⊥) → latched c e x h ≡ 0
+cleared zero e x h n = absurd (n refl)
+cleared (suc c) e x h n = refl
+
+pub taken : (c e x h : ℕ) → c ≡ 0 → (e ≡ 0 → ⊥) → latched c e x h ≡ x
+taken c zero x h p n = absurd (n refl)
+taken c (suc e) x h p n = rw p
+
+pub held : (c e x h : ℕ) → c ≡ 0 → e ≡ 0 → latched c e x h ≡ h
+held c e x h p q = rw (p, q)
+
+pub latched_in_lt : (x e c : List ℕ) (own n : ℕ) (vals : List ℕ) → Latchable x e c own n vals → (k : ℕ) → latched_in x e c own vals k < 2
+latched_in_lt x e c own n vals w k =
+    latched_lt (get_or vals (get_or c k 0) 0) (get_or vals (get_or e k 0) 0) (get_or vals (get_or x k 0) 0) (get_or vals (own + k) 0) (w.reads.bits (get_or x k 0)) (w.reads.bits (own + k))
+
+-- a further bit fits in a byte
+pub next_room : (x e c : List ℕ) (own n : ℕ) (vals : List ℕ) → Latchable x e c own n vals → (r k : ℕ) → k < n → r ≡ horner (latched_in x e c own vals) k → r * 2 + 1 < 256
+next_room x e c own n vals w r k h q =
+    omega (arith, horner_room (latched_in x e c own vals) k (latched_in_lt x e c own n vals w) (omega (arith, w.reads.few)), q)
+
+-- one flip-flop more
+pub one_latch : (x e c : List ℕ) (own : ℕ) (vals : List ℕ) (k c1 e1 x1 b : ℕ) → c1 ≡ get_or vals (get_or c k 0) 0 → e1 ≡ get_or vals (get_or e k 0) 0 → x1 ≡ get_or vals (get_or x k 0) 0
+    → b ≡ latched c1 e1 x1 (get_or vals (own + k) 0) → b ≡ latched_in x e c own vals k
+one_latch x e c own vals k c1 e1 x1 b p q s t = t ∙ rw (p, q, s)

@@ -3,7 +3,7 @@ use Prim.Native.Nat.{ℕ, ◌+◌, ◌-◌, ◌<◌, ◌≤◌}
 use mathlib.Core.Path.{◌≡◌, refl}
 use mathlib.Core.List.{List}
 use native.Mathlib.Omega.{arith}
-use native.Mathlib.Nat.{add_assoc}
+use native.Mathlib.Nat.{add_assoc, add-zero}
 use borrow.Author.Tests.{lt-ltb, le-ltb}
 use lib.ListN.{set, replicate}
 use Rattle.numbers.specs.Meaning.Bits.{bit_of}
@@ -39,3 +39,7 @@ sources_filled d s v one two p q =
 
     constants : Filled f 0 most_nets 2 (set (set (replicate most_nets 0) 0 0) 1 1)
     constants = filled_more f 0 most_nets 1 _ 1 (omega arith) refl (filled_more f 0 most_nets 0 _ 0 (omega arith) refl (filled_none f 0 most_nets))
+
+-- no bit yet
+pub spread_none : (start width x : ℕ) (l : List ℕ) → Spreads start width x 0 l l
+spread_none start width x l = record { fills = λ f w e. rw add-zero w }

@@ -1,13 +1,14 @@
 -- The version of a design's image: what the test of its flip-flops says, both ways.
-use Prim.Native.Nat.{ℕ, zero, suc, ◌<◌}
+use Prim.Native.Nat.{ℕ, zero, suc, ◌<◌, ◌+◌}
 use mathlib.Core.Path.{◌≡◌, refl}
 use mathlib.Core.Bool.{Bool, true, false, cond}
 use mathlib.Core.Logic.{◌⊎◌, inl, inr, ⊎_elim}
 use mathlib.Core.List.{List}
 use native.Mathlib.Nat.{not-suc-le-zero}
 use native.Mathlib.Decide.{ℕ_discrete}
-use borrow.Author.Tests.{eqb-true}
+use borrow.Author.Tests.{eqb-true, ne_eqb}
 use native.Mathlib.Omega.{arith}
+use native.Mathlib.Numerals.{add-one}
 use lib.Dec.{eqb}
 use lib.ListN.{get_or}
 use Rattle.netlist.specs.declared.Design.{Design}
@@ -54,3 +55,32 @@ version_cases_of d = go (plain d)
 
 pub two_version : (d : Design) → (((k : ℕ) → k < d.latches → (get_or d.enable k 0 ≡ 1) × (get_or d.clear k 0 ≡ 0)) → ⊥) → version_of d ≡ 2
 two_version d n = ⊎_elim (λ e. absurd (n (version_1 d e))) (λ e. e) (version_cases_of d)
+
+-- the test, flip-flop by flip-flop
+pub plain_none : (e c : List ℕ) → true ≡ plain_to e c 0
+unfolding plain_to
+plain_none e c = refl
+
+pub plain_more : (e c : List ℕ) (k : ℕ) → true ≡ plain_to e c k → get_or e k 0 ≡ 1 → get_or c k 0 ≡ 0 → true ≡ plain_to e c (k + 1)
+unfolding plain_to
+plain_more e c k h p q = rw (add-one, ← h, p, q)
+
+-- one that is not plain spoils all from it on
+spoilt : (e c : List ℕ) (k n : ℕ) → k < n → plain_at e c k ≡ false → false ≡ plain_to e c n
+unfolding plain_to
+spoilt e c k zero h p = absurd (not-suc-le-zero h)
+spoilt e c k (suc n) h p = go (ℕ_discrete k n) (spoilt e c k n)
+  where
+    off : (t : Bool) → false ≡ cond t false false
+    off true = refl
+    off false = refl
+
+    go : Dec (k ≡ n) → (k < n → plain_at e c k ≡ false → false ≡ plain_to e c n) → false ≡ plain_to e c (suc n)
+    go (yes q) ih = rw (← q, p) (off (plain_to e c k))
+    go (no q) ih = rw (← ih (omega arith) p)
+
+pub not_enabled : (e c : List ℕ) (k n : ℕ) → k < n → (get_or e k 0 ≡ 1 → ⊥) → false ≡ plain_to e c n
+not_enabled e c k n h p = spoilt e c k n h (rw (ne_eqb (get_or e k 0) 1 p))
+
+pub not_clear : (e c : List ℕ) (k n : ℕ) → k < n → get_or e k 0 ≡ 1 → (get_or c k 0 ≡ 0 → ⊥) → false ≡ plain_to e c n
+not_clear e c k n h q p = spoilt e c k n h (rw (q, ne_eqb (get_or c k 0) 0 p))

@@ -184,3 +184,7 @@ scanned_all {t} {at} {n} {i} p e =
       rest = f ∙ ap past (sym f) ∙ p.rest;
       capped = ap (λ (v : ℕ). min v cap) (sym (onward_nil n) ∙ ap (λ (s : List ℕ). onward n (front s)) (sym f)) ∙ p.capped;
     }
+
+-- a scan of digits begins
+pub passed_none : (t : List ℕ) (at : ℕ) → at ≤ length t → Passed t at 0 at
+passed_none t at h = record { within = h; few = omega arith; size = refl; rest = refl; capped = refl }

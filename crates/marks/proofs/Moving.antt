@@ -106,3 +106,8 @@ after_more next n l m marks out under a i = record {
       (w.0, w.1, run_append next w.0 l m ∙ ap (λ (s : ℕ). run next s m) w.2 ∙ u.leads);
   forth = λ s h. rw run_append (i.forth (run next s l) (under s h) (a.forth s h));
 }
+
+-- all states are passed
+module _ (f : ℕ → ℕ) (marks : List Bool) (s : ℕ) (out : List Bool) (w : Partial f marks s out) where
+  pub partial_end : (n : ℕ) → s ≡ n → Successors f n marks out
+  partial_end n b = rw (← b) (record { back = λ q h t. w.back q t; forth = w.forth })

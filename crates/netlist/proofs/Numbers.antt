@@ -4,6 +4,7 @@ use mathlib.Core.Path.{◌≡◌, refl}
 use mathlib.Core.Bool.{Bool, true, false}
 use mathlib.Core.List.{List}
 use native.Mathlib.Omega.{arith}
+use native.Mathlib.Decide.{dec_lt}
 use lib.ListN.{get_or}
 use Rattle.numbers.proofs.Order.{not_lt, le_of_not_lt, lt_of_not_le}
 use Rattle.memory.specs.Working.Tests.{Tells, Splits}
@@ -12,10 +13,11 @@ use Rattle.memory.specs.Working.Lowest.{Numbered, UpTo16}
 use Rattle.memory.proofs.Refusals.{lowest_number}
 use Rattle.memory.proofs.Table.{up_to_16}
 use Rattle.netlist.specs.declared.Design.{Design}
-use Rattle.netlist.specs.Meaning.Cells.{nets_of}
+use Rattle.netlist.specs.Meaning.Cells.{nets_of, gate_at}
 use Rattle.netlist.specs.Meaning.Loops.{OnLoop}
 use Rattle.netlist.specs.Meaning.Kept.{Kept}
 use Rattle.netlist.specs.Meaning.Faults.{DesignFault, Accepted}
+use Rattle.netlist.specs.Meaning.Gates.{first_of, second_of}
 use Rattle.netlist.specs.Working.Sound.{Within, NetsBelow, Sound}
 use Rattle.netlist.proofs.Loops.{KeptLoop}
 
@@ -143,3 +145,12 @@ pub over_shown : {d : Design} (t : Bool) → ((i : ℕ) → i < d.count → Nets
     → Below d d.clear d.latches → Splits t ((k : ℕ) × (k < d.outputs) × (nets_of d ≤ get_or d.shown k 0)) (Below d d.shown d.outputs) → Tells t (DesignFault d 5)
 over_shown true p x y z f = DesignFault.shown f.0 f.1 f.2
 over_shown false p x y z f = not_5 p x y z f
+
+-- what a search of the nets that cells read finds
+pub over_cell : {d : Design} (i : ℕ) → i < d.count → (NetsBelow d (nets_of d) i → ⊥) → DesignFault d 5
+over_cell {d} i h n = go (dec_lt (first_of (gate_at d i)) (nets_of d)) (dec_lt (second_of (gate_at d i)) (nets_of d))
+  where
+    go : Dec (first_of (gate_at d i) < nets_of d) → Dec (second_of (gate_at d i) < nets_of d) → DesignFault d 5
+    go (yes p) (yes q) = absurd (n (record { one = p; two = q }))
+    go (yes p) (no q) = DesignFault.second i h (omega arith)
+    go (no p) t = DesignFault.first i h (omega arith)

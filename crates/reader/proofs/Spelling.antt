@@ -3,13 +3,14 @@ use Prim.Native.Nat.{ℕ, ◌+◌, ◌-◌, ◌*◌, ◌/◌, ◌%◌, ◌^◌, 
 use mathlib.Core.Path.{◌≡◌, sym, ◌∙◌, ap, subst}
 use mathlib.Core.List.{List}
 use native.Mathlib.Omega.{arith}
-use native.Mathlib.Nat.{mod-lt, mod-eq_of_lt, add_assoc}
+use native.Mathlib.Nat.{mod-lt, mod-eq_of_lt, add_assoc, zero-div}
 use lib.Dec.{lit<}
-use lib.ListN.{length, get_or}
+use lib.ListN.{length, get_or, get_or-eq_default}
 use lib.Seq.{ext_get_or}
 use Rattle.numbers.specs.Meaning.Bits.{bit_of, horner}
 use Rattle.numbers.proofs.Digits.{horner_cong, horner_digit, horner_bits, horner_lt, horner_append, zero_digits, horner_some}
 use Rattle.reader.specs.Meaning.Fields.{bit_at, field_at}
+use lib.Pow.{pow_mono}
 
 pub bit_lt : (b : List ℕ) (i : ℕ) → bit_at b i < 2
 unfolding bit_at
@@ -65,3 +66,13 @@ byte_of b k h = sym (horner_cong (λ j. bit_at b (8 * k + j)) (bit_of 8 (get_or 
 pub same_bytes : (b c : List ℕ) → length b ≡ length c → ((k : ℕ) → get_or b k 0 < 256) → ((k : ℕ) → get_or c k 0 < 256)
     → ((i : ℕ) → i < 8 * length b → bit_at b i ≡ bit_at c i) → b ≡ c
 same_bytes b c e p q h = ext_get_or 0 b c e (λ k l. byte_of b k (p k) ∙ horner_cong _ _ 8 (λ j m. h (8 * k + j) (omega arith)) ∙ sym (byte_of c k (q k)))
+
+-- past the end every bit is 0
+pub bit_past : (b : List ℕ) (i : ℕ) → length b ≤ i / 8 → bit_at b i ≡ 0
+unfolding bit_at
+bit_past b i h = rw (get_or-eq_default b 0 h, zero-div)
+
+module _ (b : List ℕ) (at : ℕ) where
+  -- room for one bit more
+  pub field_room : (k : ℕ) → k < 16 → field_at b at k * 2 + 1 < 2 ^ 16
+  field_room k h = omega (arith, field_lt b at k, pow_mono {i = k} {j = 15} (omega arith))

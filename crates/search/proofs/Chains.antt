@@ -8,7 +8,9 @@ use borrow.Author.Count.{below_more}
 use lib.ListN.{length, get_or, set, length-set, replicate, length-replicate, get_or-replicate}
 use lib.Seq.{get_or-set_same, get_or-set_other}
 use Rattle.numbers.proofs.Order.{tri}
-use Rattle.search.specs.Working.{LastBelow, Inverts, On, here, there, Chain}
+use Rattle.search.specs.Working.{LastBelow, Inverts, On, here, there, Chain, Chains, Table}
+use Rattle.places.specs.Working.{Nexts}
+use Rattle.machine.specs.declared.Sizes.{Sizes}
 
 -- the walk along the chain from x₀ has come to x: what it has passed are the states from x on
 pub record Along (link : List ℕ) (n x₀ x : ℕ) : Type 0 where
@@ -113,3 +115,20 @@ module _ {next : List ℕ} {n m v : ℕ} where
 
     pub leads_on : {t b x s : ℕ} → b ≤ n → LastBelow next m v t b x → s < b → get_or next (s * m + v) 0 ≡ t → On link s x
     leads_on {x = x} h y l e = leads_within x (omega arith) h y l e
+
+-- the chains of all states, and that they fall
+module _ {next : List ℕ} {n m v : ℕ} where
+  pub linked_end : {s : ℕ} {first link : List ℕ} → Linked next n m v s first link → n ≤ s → Inverts next n m v first link
+  linked_end {s} a h = let e : s ≡ n = omega (arith, a.under) in record { firsts = λ t l. rw e at (a.firsts t l); links = λ u l. a.links u (omega arith) }
+
+  module _ {first link : List ℕ} (w : Inverts next n m v first link) where
+    pub inverts_chains : n ≤ 128 → Chains n first link
+    inverts_chains few = record { each = λ t h. record { few = few; begins = (w.firsts t h).under; falls = λ s l. (w.links s l).under } }
+
+-- the tables of two designs, one by one
+module _ {z : Sizes} {next0 next1 : List ℕ} (w : Nexts z next0 next1) where
+  pub table_old : Table next0 z.old z.vectors
+  table_old = record { few = w.few.few_old; few_vectors = w.few.few_vectors; long = w.long_old; leads = w.next_old }
+
+  pub table_new : Table next1 z.new z.vectors
+  table_new = record { few = w.few.few_new; few_vectors = w.few.few_vectors; long = w.long_new; leads = w.next_new }

@@ -15,7 +15,7 @@ use Rattle.machine.specs.Meaning.Tables.{pairs, at}
 use Rattle.machine.specs.Working.Pairs.{pair_at}
 use Rattle.machine.proofs.Numbers.{second_pos, pair_at_in, at_pair}
 use Rattle.numbers.proofs.Order.{tri}
-use Rattle.search.specs.Working.{Listed, Gathered, Unmarked}
+use Rattle.search.specs.Working.{Listed, Gathered, Unmarked, Numbers}
 
 -- the first n entries are the pairs from `start` to i
 pub record Gathering (z : Sizes) (d : List ℕ) (k start : ℕ) (list : List ℕ) (n i : ℕ) : Type 0 where
@@ -87,3 +87,6 @@ module _ {z : Sizes} {d : List ℕ} {k start : ℕ} where
       more s (inr (inr o)) = o
       more (inl e) (inr (inl o)) = absurd (omega (arith, a.moved o))
       more (inr e) (inr (inl o)) = absurd (omega arith)
+
+pub gathered_numbers : {z : Sizes} {d : List ℕ} {k start n next : ℕ} {list : List ℕ} → Gathered z d k start list n next → Numbers z list n
+gathered_numbers a = record { few = a.few; each = λ j h. omega (arith, (a.each j h).0, a.most) }

@@ -146,3 +146,8 @@ module _ {P : Pair → Type 0} {s s' : Sweep} {r : ℕ} (a : MetIn P s s' r) whe
 
   pub meets_then : {Q R : Pair → Type 0} {s'' : Sweep} {t : ℕ} → MetIn Q s' s'' t → ((p : Pair) → In s.tables.sizes p → P p → R p) → ((p : Pair) → In s.tables.sizes p → Q p → R p) → ((p : Pair) → In s.tables.sizes p → R p → P p ⊎ Q p) → MetIn R s s'' (r + t)
   meets_then b one two split = record { tables = b.tables ∙ a.tables; k = b.k ∙ a.k; place = b.place ∙ a.place; met = met_then a.met (rw (meets_sizes, a.k) at b.met) one two split }
+
+-- a map that can take k + 1 still can
+module _ {z : Sizes} {k : ℕ} {P : Pair → Type 0} {d d' : List ℕ} {rows rows' : List Bool} {r : ℕ} (a : Met z k P d d' rows rows' r) where
+  pub met_writable : Writable z k d rows → Writable z k d' rows'
+  met_writable w = record { few = w.few; some = w.some; most = w.most; room = omega (arith, a.long, w.room); marks = a.rows_long ∙ w.marks }

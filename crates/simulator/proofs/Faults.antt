@@ -11,13 +11,14 @@ use Rattle.memory.specs.Meaning.Orders.{table_order}
 use Rattle.memory.specs.declared.Refusal.{Refusal}
 use Rattle.memory.specs.Meaning.Refusals.{Free, First, FirstOrNone, Checked, BothOf, earlier_number}
 use Rattle.memory.specs.Working.Lowest.{Numbered, UpTo16, place_in}
-use Rattle.memory.proofs.Refusals.{some_number, first_early, first_late, first_either, first_then}
+use Rattle.memory.proofs.Refusals.{some_number, first_early, first_late, first_either, first_then, no_number}
 use Rattle.memory.proofs.Table.{up_to_16, listed_stands}
 use Rattle.memory.proofs.Checked.{both_checked}
 use Rattle.memory.proofs.Places.{place_low, place_10, place_21, place_high, first_of_place}
 use Rattle.netlist.specs.declared.Design.{Design}
 use Rattle.netlist.specs.Meaning.Faults.{DesignFault, Accepted}
 use Rattle.netlist.specs.Meaning.Watched.{WatchFault}
+use Rattle.netlist.specs.Meaning.Nets.{states_of, vectors_of}
 use Rattle.netlist.proofs.Numbers.{fault_bounds, design_among}
 use Rattle.netlist.proofs.Watched.{nothing_wrong}
 use Rattle.simulator.specs.Meaning.Clock.{ClockFault}
@@ -176,3 +177,36 @@ module _ (a b : Design) (room0 room1 : ℕ) where
   both_among k (BothFault.interface (InterfaceFault.other_inputs f)) = (omega arith, omega arith)
   both_among k (BothFault.interface (InterfaceFault.other_outputs f)) = (omega arith, omega arith)
   both_among k (BothFault.interface (InterfaceFault.other_watched f)) = absurd (f refl)
+
+-- where a clock is not turned away
+module _ (d : Design) (s v : ℕ) where
+  pub clock_free : Accepted d → s < states_of d → v < vectors_of d → Free (ClockFault d s v)
+  clock_free none p q n (ClockFault.design f) = none n f
+  clock_free none p q n (ClockFault.state l) = omega arith
+  clock_free none p q n (ClockFault.vector l) = omega arith
+
+-- where no number applies to a table, the design and its watched nets are accepted
+module _ (d : Design) (w : List ℕ) (room : ℕ) (none : Free (TableFault d w room)) where
+  pub table_accepted : Accepted d
+  table_accepted k f = none k (TableFault.design f)
+
+  pub table_watch : Free (WatchFault d w)
+  table_watch k f = none k (TableFault.watch f)
+
+-- where none applies to a pair of designs
+module _ (a b : Design) (w0 w1 : List ℕ) (i : a.inputs ≡ b.inputs) (o : a.outputs ≡ b.outputs) where
+  pub interface_free : length w0 ≡ length w1 → FirstOrNone (InterfaceFault a b w0 w1) 0
+  interface_free e = no_number free
+    where
+      free : Free (InterfaceFault a b w0 w1)
+      free k (InterfaceFault.other_inputs g) = g i
+      free k (InterfaceFault.other_outputs g) = g o
+      free k (InterfaceFault.other_watched g) = g e
+
+-- where none applies to two tables, none applies to either
+module _ (a b : Design) (w0 w1 : List ℕ) (room0 room1 : ℕ) (none : Free (BothFault a b w0 w1 room0 room1)) where
+  pub old_free : Free (TableFault a w0 room0)
+  old_free k f = none k (BothFault.old f)
+
+  pub new_free : Free (TableFault b w1 room1)
+  new_free k f = none k (BothFault.new f)

@@ -21,7 +21,7 @@ use Rattle.simulator.specs.declared.tables.Prepared.{Prepared}
 use Rattle.simulator.specs.Meaning.Tables.{size_of, HoldsDesign, TableFault, InterfaceFault, BothFault}
 use Rattle.simulator.specs.Working.Filling.{DrawnFault, FilledTables}
 use Rattle.simulator.specs.Working.Preparing.{Begins, Prepares}
-use Rattle.simulator.proofs.Faults.{drawn_checked, table_first, table_12, table_free, both_first}
+use Rattle.simulator.proofs.Faults.{drawn_checked, table_first, table_12, table_free, both_first, table_accepted}
 use Rattle.simulator.proofs.Filling.{holds_design}
 
 -- the order and the watched nets of a design, and what both together say
@@ -100,3 +100,11 @@ module _ (a b : Design) (w0 w1 : List ℕ) (room0 room1 : ℕ) (p q : Result Pre
 
     pub new_begins : Begins b w1 room1 y
     new_begins = subst (Prepares b w1 room1) each.1 new
+
+-- a design in which nothing is wrong
+pub drawn_sound : {d : Design} {w : List ℕ} → Free (DrawnFault d w) → Sound d
+drawn_sound none = sound_of (λ k f. none k (DrawnFault.design f))
+
+module _ (d : Design) (w : List ℕ) (room : ℕ) (none : Free (TableFault d w room)) where
+  pub sound_table : Sound d
+  sound_table = sound_of (table_accepted d w room none)

@@ -124,3 +124,7 @@ module _ (d : Design) (b : List ℕ) (e : Encodes d b) where
 pub one_image : (d : Design) (b c : List ℕ) → Encodes d b → Encodes d c → ((k : ℕ) → get_or b k 0 < 256) → ((k : ℕ) → get_or c k 0 < 256) → b ≡ c
 one_image d b c p q s t =
     same_bytes b c (p.size ∙ sym q.size) s t (λ i h. image_bits_lem d b p i h ∙ sym (image_bits_lem d c q i (omega (arith, p.size, q.size, h))))
+
+-- the bits of byte k of the words that two lists hold
+abbrev pub bits : ℕ → List ℕ → List ℕ → ℕ → ℕ → ℕ → ℕ → ℕ
+bits h c t g n k j = word_bit h (λ i. get_or c i 0) (λ i. get_or t i 0) g n (8 * k + j)
