@@ -37,15 +37,15 @@ fn ask(line: &[u8], room: &mut [u8; ROOM]) {
         None => {
             io::write_all(
                 1,
-                b"NO QUESTION: a line is NAME:TEXT, at most 1,048,577 bytes, a backslash only in \\n \\t \\r \\\\ \\xHH, and \\z below 1,048,576\n",
+                b"NO QUESTION: a line is NAME:TEXT, at most 1,048,577 bytes, a backslash only in \\n \\t \\r \\\\ \\xHH, and \\z below 1,048,576\n\n",
             );
         }
         Some(n) => {
             show_reading(&room[..n]);
             show_output(room, n);
+            io::write_all(1, b"\n");
         }
     }
-    io::write_all(1, b"\n");
 }
 
 // Prints what is read of a text: the design, and before it the number of a refusal.

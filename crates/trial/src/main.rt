@@ -46,7 +46,7 @@ use calls::Call;
 use designs::low;
 use machine::TablesRef;
 use memory::Scratch;
-use tables::{Lent, MOST, PairRoom, TableRoom, front};
+use tables::{Lent, MOST, PAIRS, TABLE, front};
 
 // The most bytes of all lines, and bytes of a list that is read.
 const LINES: usize = 262144;
@@ -130,12 +130,13 @@ fn answer(q: &Question<'_>) {
 
 fn ask_compare(q: &Question<'_>) {
     let n = &q.numbers;
-    let mut old_room = TableRoom::of(n.held());
-    let mut new_room = TableRoom::of(n.held());
-    let mut pair_room = PairRoom::of(n.at(0));
-    let mut old_table = old_room.lend(n.table_lengths(1));
-    let mut new_table = new_room.lend(n.table_lengths(4));
-    let Lent { mut scratch, list } = pair_room.lend(n.pair_lengths());
+    let mut old_room = [n.held(); TABLE];
+    let mut new_room = [n.held(); TABLE];
+    let mut bytes = [low(n.at(0)); PAIRS];
+    let mut reach = [n.at(0); MOST];
+    let mut old_table = tables::table(&mut old_room, n.table_lengths(1));
+    let mut new_table = tables::table(&mut new_room, n.table_lengths(4));
+    let Lent { mut scratch, list } = tables::pair(&mut bytes, &mut reach, n.pair_lengths());
     let end = 15 + usize::from(n.at(14));
     let judged = compare::compare(
         q.old,
@@ -157,10 +158,10 @@ fn ask_compare(q: &Question<'_>) {
 
 fn ask_tabulate_both(q: &Question<'_>) {
     let n = &q.numbers;
-    let mut old_room = TableRoom::of(n.held());
-    let mut new_room = TableRoom::of(n.held());
-    let mut old_table = old_room.lend(n.table_lengths(1));
-    let mut new_table = new_room.lend(n.table_lengths(4));
+    let mut old_room = [n.held(); TABLE];
+    let mut new_room = [n.held(); TABLE];
+    let mut old_table = tables::table(&mut old_room, n.table_lengths(1));
+    let mut new_table = tables::table(&mut new_room, n.table_lengths(4));
     let end = 8 + usize::from(n.at(7));
     let tabulated = simulator::tabulate_both(
         q.old,
@@ -177,8 +178,8 @@ fn ask_tabulate_both(q: &Question<'_>) {
 
 fn ask_tabulate(q: &Question<'_>) {
     let n = &q.numbers;
-    let mut room = TableRoom::of(n.held());
-    let mut table = room.lend(n.table_lengths(1));
+    let mut room = [n.held(); TABLE];
+    let mut table = tables::table(&mut room, n.table_lengths(1));
     let tabulated = simulator::tabulate(q.old, n.part(4, n.given), &mut table);
     show::answer(tabulated, show::sizes);
     show::table(&table);
@@ -214,8 +215,9 @@ fn ask_tables<F: FnOnce(&TablesRef<'_>, &mut Scratch<'_>, &mut [u8])>(q: &Questi
         return;
     };
     let n = &q.numbers;
-    let mut room = PairRoom::of(n.at(0));
-    let Lent { mut scratch, list } = room.lend(n.pair_lengths());
+    let mut bytes = [low(n.at(0)); PAIRS];
+    let mut reach = [n.at(0); MOST];
+    let Lent { mut scratch, list } = tables::pair(&mut bytes, &mut reach, n.pair_lengths());
     asked(&tables, &mut scratch, list);
     show::scratch(&scratch);
     show::entries(list);

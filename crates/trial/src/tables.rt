@@ -1,6 +1,5 @@
 // Slices that are lent to calls: room for them, and tables that bytes hold.
 use crate::asked::Question;
-use crate::designs::low;
 use crate::given::{PairLengths, TableLengths};
 use machine::{Sizes, TablesRef};
 use memory::{Scratch, TableMut, TableRef};
@@ -8,45 +7,23 @@ use memory::{Scratch, TableMut, TableRef};
 // More entries than a slice that is lent has.
 pub(crate) const MOST: usize = 65536;
 
+// Bytes for the slices of a table, and for the slices of bytes that are lent for pairs. Who asks has them as arrays of his own: a struct of
+// arrays that a function makes is copied when it is handed back.
+pub(crate) const TABLE: usize = 3 * MOST;
+
+pub(crate) const PAIRS: usize = 2 * MOST;
+
 // The front of room, to be written.
 pub(crate) fn front<T>(room: &mut [T; MOST], length: u16) -> &mut [T] {
     &mut room[..usize::from(length)]
 }
 
-// Room for the table slices of a design.
-#[derive(Clone, Copy)]
-pub(crate) struct TableRoom {
-    next: [u8; MOST],
-    out: [u8; MOST],
-    seen: [u8; MOST],
-}
-
-impl TableRoom {
-    // Room that holds one value throughout.
-    pub(crate) fn of(held: u8) -> TableRoom {
-        TableRoom {
-            next: [held; MOST],
-            out: [held; MOST],
-            seen: [held; MOST],
-        }
-    }
-
-    pub(crate) fn lend(&mut self, lengths: TableLengths) -> TableMut<'_> {
-        let TableRoom { next, out, seen } = self;
-        TableMut {
-            next: front(next, lengths.next),
-            out: front(out, lengths.out),
-            seen: front(seen, lengths.seen),
-        }
-    }
-}
-
-// Room for both scratch slices and a list or mark slice.
-#[derive(Clone, Copy)]
-pub(crate) struct PairRoom {
-    depth: [u8; MOST],
-    reach: [u16; MOST],
-    list: [u8; MOST],
+// The table slices of a design.
+pub(crate) fn table(room: &mut [u8; TABLE], lengths: TableLengths) -> TableMut<'_> {
+    let (next, rest) = room.split_at_mut(usize::from(lengths.next));
+    let (out, rest) = rest.split_at_mut(usize::from(lengths.out));
+    let seen = &mut rest[..usize::from(lengths.seen)];
+    TableMut { next, out, seen }
 }
 
 // Both scratch slices, and a list or mark slice.
@@ -56,25 +33,18 @@ pub(crate) struct Lent<'a> {
     pub list: &'a mut [u8],
 }
 
-impl PairRoom {
-    // Room that holds one number throughout, of which a byte holds at most 255.
-    pub(crate) fn of(number: u16) -> PairRoom {
-        PairRoom {
-            depth: [low(number); MOST],
-            reach: [number; MOST],
-            list: [low(number); MOST],
-        }
-    }
-
-    pub(crate) fn lend(&mut self, lengths: PairLengths) -> Lent<'_> {
-        let PairRoom { depth, reach, list } = self;
-        Lent {
-            scratch: Scratch {
-                depth: front(depth, lengths.depth),
-                reach: front(reach, lengths.reach),
-            },
-            list: front(list, lengths.list),
-        }
+pub(crate) fn pair<'a>(
+    bytes: &'a mut [u8; PAIRS],
+    reach: &'a mut [u16; MOST],
+    lengths: PairLengths,
+) -> Lent<'a> {
+    let (depth, rest) = bytes.split_at_mut(usize::from(lengths.depth));
+    Lent {
+        scratch: Scratch {
+            depth,
+            reach: front(reach, lengths.reach),
+        },
+        list: &mut rest[..usize::from(lengths.list)],
     }
 }
 
