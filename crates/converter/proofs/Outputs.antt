@@ -18,10 +18,10 @@ use Rattle.converter.specs.Meaning.Output.{most_text, open_message, AnswersText,
 use Rattle.converter.specs.Working.Images.{HoldsWhole}
 
 -- the answer that was taken apart, with the design beside it
-as_read : {t : List ℕ} {r : Reading} {a : Result (Unit {0}) Refusal} → r.answer ≡ a → ReadsDrawing t r → ReadsDrawing t (record { answer = a; design = r.design })
+as_read : {t : List ℕ} {r : Reading Refusal} {a : Result (Unit {0}) Refusal} → r.answer ≡ a → ReadsDrawing t r → ReadsDrawing t (record { answer = a; design = r.design })
 as_read {t} {r} e p = subst (λ (x : Result (Unit {0}) Refusal). ReadsDrawing t (record { answer = x; design = r.design })) e p
 
-module _ {t : List ℕ} {r : Reading} (p : ReadsDrawing t r) where
+module _ {t : List ℕ} {r : Reading Refusal} (p : ReadsDrawing t r) where
   pub read_accepted : r.answer ≡ Ok tt → Accepted r.design
   read_accepted e = let q = as_read e p in subst (λ (d : Design). Accepted d) (sym q.keeps.1) (text_accepted t q.keeps.0)
 

@@ -25,7 +25,7 @@ use Rattle.converter.proofs.Outputs.{read_accepted}
 -- over the promises of the three calls: what `aiger::read` accepts, `writer::write` writes and `image::read` reads back
 pub drawing_written : (t : List ℕ) (d : Design) → ReadsDrawing t (record { answer = Ok tt; design = d })
     → (n : ℕ) (w : Result ℕ Refusal) (l : List ℕ) → Writes d n w l → bytes_of d ≤ n
-    → (w ≡ Ok (bytes_of d)) × ((r : Reading) → ReadsImage (take (bytes_of d) l) r → (r.answer ≡ Ok tt) × SameDesign d r.design)
+    → (w ≡ Ok (bytes_of d)) × ((r : Reading Refusal) → ReadsImage (take (bytes_of d) l) r → (r.answer ≡ Ok tt) × SameDesign d r.design)
 drawing_written t d p n w l h room =
     let e = writes d (read_accepted p refl) n w l h room in
     (e, λ r q. write_read d n (bytes_of d) l (subst (λ (x : Result ℕ Refusal). Writes d n x l) e h) r q)

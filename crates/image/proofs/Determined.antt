@@ -17,7 +17,7 @@ use Rattle.image.specs.Meaning.Reading.{Measures, ReadsImage, read_reply}
 pub length_not_zero : {b : List ℕ} {r : Result ℕ Refusal} → Measures b r → reply_of r ≡ refusal 0 → ⊥
 length_not_zero {r = r} p e = reply_some r e
 
-pub read_not_zero : {b : List ℕ} {r : Reading} → ReadsImage b r → read_reply r.answer r.design ≡ refusal 0 → ⊥
+pub read_not_zero : {b : List ℕ} {r : Reading Refusal} → ReadsImage b r → read_reply r.answer r.design ≡ refusal 0 → ⊥
 read_not_zero {r = r} p e = go r.answer r.design e
   where
     go : (x : Result (Unit {0}) Refusal) (d : Design) → read_reply x d ≡ refusal 0 → ⊥
@@ -34,5 +34,5 @@ one_reading {b} (Ok _) (Err m) d c p q = absurd (p.keeps.0 (number_of m) q.keeps
 one_reading {b} (Err n) (Ok _) d c p q = absurd (q.keeps.0 (number_of n) p.keeps.0.applies)
 one_reading {b} (Err n) (Err m) d c p q = (ap (λ (x : Refusal). Err x) (number_injective n m (first_unique p.keeps.0 q.keeps.0)), p.keeps.1 ∙ sym q.keeps.1)
 
-pub one_reply : (b : List ℕ) (r t : Reading) → ReadsImage b r → ReadsImage b t → (r.answer ≡ t.answer) × (r.design ≡ t.design)
+pub one_reply : (b : List ℕ) (r t : Reading Refusal) → ReadsImage b r → ReadsImage b t → (r.answer ≡ t.answer) × (r.design ≡ t.design)
 one_reply b r t p q = one_reading r.answer t.answer r.design t.design p q

@@ -25,7 +25,7 @@ front_fits w = let e = w.keeps.1 in rw e (le_of_not_lt (λ h. w.keeps.0 4 (Image
 pub front_unmeasured : {b : List ℕ} {r : Refusal} → Measures b (Err r) → FrontRefused b (number_of r)
 front_unmeasured w = FrontRefused.header w.keeps.0
 
-module _ {b : List ℕ} {m : ℕ} {f : Reading} (w : Measures b (Ok m)) (d : ReadsImage (take m b) f) where
+module _ {b : List ℕ} {m : ℕ} {f : Reading Refusal} (w : Measures b (Ok m)) (d : ReadsImage (take m b) f) where
   pub front_read : f.answer ≡ Ok tt → FrontAccepted b
   front_read e =
       let x = rw e at d.keeps in

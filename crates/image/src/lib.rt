@@ -19,11 +19,12 @@ pub fn length_of(image: &[u8]) -> Result<usize, Refusal>
     faults::header_fault(image.len(), h).map(|_| h.bytes())
 }
 
-// Whether an image is accepted, and beside that its design, or the empty one. Not a Result of the design: of a refusal `ReadsImage` promises
-// the empty design beside it, to which the edits empty_design_has_an_input and empty_design_never_enabled hold.
+// Whether an image is accepted, and beside that its design, or the empty one. A reader refuses by a Refusal, `refusal` by whatever it is given.
+// Not a Result of the design: of a refusal `ReadsImage` promises the empty design beside it, to which the edits empty_design_has_an_input and
+// empty_design_never_enabled hold.
 #[derive(Clone, Copy)]
-pub struct Reading {
-    pub answer: Result<(), Refusal>,
+pub struct Reading<E = Refusal> {
+    pub answer: Result<(), E>,
     pub design: Design,
 }
 
@@ -56,8 +57,8 @@ fn decoded(image: &[u8]) -> Result<Design, Refusal>
     Ok(design)
 }
 
-// A refusal for whatever reason a reader found, with the empty design beside it; no answer by itself.
-pub fn refusal(reason: Refusal) -> Reading
+// A refusal by whatever it is given, a reader's reason or a bare number, with the empty design beside it; no answer by itself.
+pub fn refusal<E>(reason: E) -> Reading<E>
     ensures { (result.answer ≡ Err reason) × (result.design ≡ empty_design) }
 {
     Reading {

@@ -10,7 +10,7 @@ use Rattle.image.specs.Meaning.Reading.{ReadsImage}
 use Rattle.pieces.specs.Meaning.Pieces.{last_field, Printed}
 use Rattle.inspector.specs.Meaning.Shown.{sizes_text, Shows, Inspects}
 
-module _ {b text' : List ℕ} {r : ℕ} {g : Reading} (w : ReadsImage b g) where
+module _ {b text' : List ℕ} {r : ℕ} {g : Reading Refusal} (w : ReadsImage b g) where
   pub sizes_shown : g.answer ≡ Ok tt → Printed (sizes_text g.design) text' r → Inspects b text' 1 r
   sizes_shown e p =
       let x = rw e at w.keeps in

@@ -1,7 +1,6 @@
 // Designs: an image in hexadecimal, or a list of all that stands in memory.
 use crate::words;
 use limits::Image;
-use memory::Refusal;
 use netlist::{Cell, Design, Gate};
 
 // Where nets and cells stand in such a list, behind its 4 sizes; and how many numbers it has.
@@ -27,7 +26,7 @@ pub(crate) struct Drawn<'a> {
 // Reads a design, if one is wanted and it is spelled right; else it is the empty one.
 pub(crate) fn drawn_at(line: &[u8], wanted: bool) -> Option<Drawn<'_>> {
     if !wanted {
-        let none = image::refusal(Refusal::FewBytes);
+        let none = image::refusal(0u8);
         return Some(Drawn {
             design: none.design,
             rest: line,

@@ -63,7 +63,7 @@ read_write b d r p n w l h room = go w h.keeps
     go (Err k) (m, z) = absurd (free (number_of k) m.applies)
 
 -- "writing an accepted design and reading it yields that design"
-pub write_read : (d : Design) (n k : ℕ) (l : List ℕ) → Writes d n (Ok k) l → (r : Reading) → ReadsImage (take k l) r
+pub write_read : (d : Design) (n k : ℕ) (l : List ℕ) → Writes d n (Ok k) l → (r : Reading Refusal) → ReadsImage (take k l) r
     → (r.answer ≡ Ok tt) × SameDesign d r.design
 write_read d n k l h r w = go r.answer r.design w.keeps
   where

@@ -14,5 +14,5 @@ use Rattle.drawing.specs.Meaning.Faults.{DrawingFault}
 pub record Drafts (d : Drawing) (r : Result Design Refusal) : Type 0 where
   pub keeps : KeepsFirst (DrawingFault d) (18 ∷ 3 ∷ 9 ∷ []) (λ n. n) (λ c. c ≡ drawn d) (Unit {0}) (reply_of r)
 
-pub record Draws (d : Drawing) (r : Reading) : Type 0 where
+pub record Draws (d : Drawing) (r : Reading Refusal) : Type 0 where
   pub keeps : KeepsFirst (DrawingFault d) (18 ∷ 3 ∷ 9 ∷ []) (λ n. n) (λ c. c ≡ drawn d) (r.design ≡ empty_design) (read_reply r.answer r.design)

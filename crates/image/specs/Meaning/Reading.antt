@@ -35,5 +35,5 @@ read_reply (Err r) d = refusal (number_of r)
 pub record Measures (b : List ℕ) (r : Result ℕ Refusal) : Type 0 where
   pub keeps : Keeps (HeaderFault b) (λ n. n ≡ bytes_in b) (Unit {0}) (reply_of r)
 
-pub record ReadsImage (b : List ℕ) (r : Reading) : Type 0 where
+pub record ReadsImage (b : List ℕ) (r : Reading Refusal) : Type 0 where
   pub keeps : Keeps (ImageFault b) (λ d. d ≡ decoded b) (r.design ≡ empty_design) (read_reply r.answer r.design)
