@@ -175,7 +175,7 @@ fn put_refused<A: Copy>(who: Side, answer: Result<A, Refusal>, text: &mut [u8]) 
 {
     match answer {
         Ok(_) => 0,
-        Err(reason) => report::put_refusal(who, reason, text),
+        Err(reason) => report::put_refusal(who, reason.number(), text),
     }
 }
 
