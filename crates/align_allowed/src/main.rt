@@ -4,11 +4,11 @@
 
 ghost use Rattle.std.specs.Prelude.{◌≡◌, ◌+◌, ◌*◌, ◌≤◌, length};
 ghost use Rattle.streams.specs.Meaning.Input.{Within};
-ghost use Rattle.streams.specs.Meaning.Output.{stream_number, Sends};
+ghost use Rattle.streams.specs.Meaning.Output.{Sends};
 ghost use Rattle.align_allowed.specs.Meaning.Allowing.{allowed_in, OutputsAllowed, most_read_allowed, unread_allowed};
 
 use limits::Image;
-use streams::{Output, Stream};
+use streams::{Output, STDOUT};
 
 // The bytes of the number.
 const NUMBER: usize = 8;
@@ -35,7 +35,7 @@ fn main(rt: HostRuntime) {
 // Puts what the program writes of its room into a text: what it prints of what was read, or the words that nothing could be read.
 fn answer(room: &[u8], input: Option<usize>, text: &mut [u8]) -> Output
     requires { (length room.now ≡ most_read_allowed) × (Within input room.now) × (400 + 12 * 32768 ≤ length text.old) }
-    ensures { Sends unread_allowed OutputsAllowed input room.now text.new (stream_number result.stream) result.length }
+    ensures { Sends unread_allowed OutputsAllowed input room.now text.new result.stream result.length }
 {
     let Some(n) = input else {
         return streams::put_unread(b"align_allowed: standard input cannot be read\n", text);
@@ -50,7 +50,7 @@ fn answer(room: &[u8], input: Option<usize>, text: &mut [u8]) -> Output
         text,
     );
     Output {
-        stream: Stream::Stdout,
+        stream: STDOUT,
         length,
     }
 }

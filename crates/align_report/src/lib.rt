@@ -16,7 +16,7 @@ ghost use Rattle.compare.specs.Meaning.Comparing.{tables_lent_of};
 ghost use Rattle.streams.specs.Meaning.Input.{Within};
 ghost use Rattle.pieces.specs.Meaning.Pieces.{Printed};
 ghost use Rattle.report.specs.Meaning.Text.{refusal_text};
-ghost use Rattle.streams.specs.Meaning.Output.{stream_number, Sends};
+ghost use Rattle.streams.specs.Meaning.Output.{Sends};
 ghost use Rattle.align_report.specs.Meaning.Report.{FactsOf, Reports, own_tables, own_slices, Outputs, most_read, unread_message};
 ghost use Rattle.align_report.specs.Working.Tabled.{ReportsDesigns};
 
@@ -25,7 +25,7 @@ use machine::{Sizes, TablesRef};
 use memory::{Refusal, Scratch, TableMut};
 use netlist::Design;
 use report::{Facts, Side};
-use streams::{Output, Stream};
+use streams::{Output, STDOUT};
 use verdict::{Judged, Verdict};
 
 // Entries of the tables of the largest design, and pairs of two such designs.
@@ -39,7 +39,7 @@ const STEPS: usize = 32768;
 // Puts what the program writes of its room into a text: what it prints of what was read, or the words that nothing could be read.
 pub fn answer(room: &[u8], input: Option<usize>, text: &mut [u8]) -> Output
     requires { (length room.now ≡ most_read) × (Within input room.now) × (400 + 12 * 32768 ≤ length text.old) }
-    ensures { Sends unread_message Outputs input room.now text.new (stream_number result.stream) result.length }
+    ensures { Sends unread_message Outputs input room.now text.new result.stream result.length }
 {
     let Some(n) = input else {
         return streams::put_unread(b"align: standard input cannot be read\n", text);
@@ -47,7 +47,7 @@ pub fn answer(room: &[u8], input: Option<usize>, text: &mut [u8]) -> Output
     let mut list = [0u8; STEPS];
     let length = write_report(&room[..n], None, &mut list, text);
     Output {
-        stream: Stream::Stdout,
+        stream: STDOUT,
         length,
     }
 }
@@ -175,7 +175,7 @@ fn put_refused<A: Copy>(who: Side, answer: Result<A, Refusal>, text: &mut [u8]) 
 {
     match answer {
         Ok(_) => 0,
-        Err(reason) => report::put_refusal(who, reason, text),
+        Err(reason) => report::put_refusal(who, reason.number(), text),
     }
 }
 

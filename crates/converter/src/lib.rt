@@ -7,12 +7,12 @@ ghost use Rattle.memory.specs.Working.Tests.{Tells};
 ghost use Rattle.lines.specs.Meaning.Spelling.{words_at};
 ghost use Rattle.netlist.specs.Meaning.Faults.{Accepted};
 ghost use Rattle.streams.specs.Meaning.Input.{Within};
-ghost use Rattle.streams.specs.Meaning.Output.{stream_number, Sends};
+ghost use Rattle.streams.specs.Meaning.Output.{Sends};
 ghost use Rattle.converter.specs.Meaning.Output.{most_text, unread_message, Converts};
 ghost use Rattle.converter.specs.Working.Images.{HoldsWhole};
 
 use netlist::Design;
-use streams::{Output, Stream};
+use streams::{Output, STDERR, STDOUT};
 
 // The program's input: a text of up to a mebibyte, or the front of a longer one.
 #[derive(Clone, Copy)]
@@ -33,7 +33,7 @@ impl Text {
 // open; or the message that nothing could be read.
 pub fn answer(room: &[u8], input: Option<usize>, out: &mut [u8]) -> Output
     requires { (length room.now ≡ most_text + 1) × (Within input room.now) × (most_bytes ≤ length out.old) }
-    ensures { Sends unread_message Converts input room.now out.new (stream_number result.stream) result.length }
+    ensures { Sends unread_message Converts input room.now out.new result.stream result.length }
 {
     let Some(n) = input else {
         return streams::put_unread(b"convert: standard input cannot be read\n", out);
@@ -44,7 +44,7 @@ pub fn answer(room: &[u8], input: Option<usize>, out: &mut [u8]) -> Output
 // The same of the first n bytes of the room. The front of a longer text answers for all of it, unless no line feed ends its first line.
 fn convert(room: &[u8], n: usize, out: &mut [u8]) -> Output
     requires { (length room.now ≡ most_text + 1) × (n ≤ length room.now) × (most_bytes ≤ length out.old) }
-    ensures { Converts (take n room.now) out.new (stream_number result.stream) result.length }
+    ensures { Converts (take n room.now) out.new result.stream result.length }
 {
     let text = &room[..n];
     if n > Text::MOST_BYTES && unended(text) {
@@ -53,7 +53,7 @@ fn convert(room: &[u8], n: usize, out: &mut [u8]) -> Output
             out,
         );
         return Output {
-            stream: Stream::Stderr,
+            stream: STDERR,
             length,
         };
     }
@@ -66,7 +66,7 @@ fn convert(room: &[u8], n: usize, out: &mut [u8]) -> Output
         }
     };
     Output {
-        stream: Stream::Stdout,
+        stream: STDOUT,
         length,
     }
 }

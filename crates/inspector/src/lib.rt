@@ -4,18 +4,18 @@
 ghost use Rattle.std.specs.Prelude.{◌≡◌, ◌≤◌, length};
 ghost use Rattle.pieces.specs.Meaning.Pieces.{Printed};
 ghost use Rattle.streams.specs.Meaning.Input.{Within};
-ghost use Rattle.streams.specs.Meaning.Output.{stream_number, Sends};
+ghost use Rattle.streams.specs.Meaning.Output.{Sends};
 ghost use Rattle.inspector.specs.Meaning.Shown.{most_read, unread_message, sizes_text, Inspects};
 
 use netlist::Design;
 use pieces::Text;
-use streams::{Output, Stream};
+use streams::{Output, STDOUT};
 
 // Puts what the program writes of its room into a text: the line of the image that was read, or the message that nothing could be read.
 // The room has one byte more than the largest image, so that bytes left over are noticed.
 pub fn answer(room: &[u8], input: Option<usize>, text: &mut [u8]) -> Output
     requires { (length room.now ≡ most_read) × (Within input room.now) × (120 ≤ length text.old) }
-    ensures { Sends unread_message Inspects input room.now text.new (stream_number result.stream) result.length }
+    ensures { Sends unread_message Inspects input room.now text.new result.stream result.length }
 {
     let Some(n) = input else {
         return streams::put_unread(b"inspect: standard input cannot be read\n", text);
@@ -29,7 +29,7 @@ pub fn answer(room: &[u8], input: Option<usize>, text: &mut [u8]) -> Output
         }
     };
     Output {
-        stream: Stream::Stdout,
+        stream: STDOUT,
         length,
     }
 }

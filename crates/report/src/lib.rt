@@ -6,14 +6,12 @@ mod lines;
 mod steps;
 
 ghost use Rattle.std.specs.Prelude.{◌+◌, ◌*◌, ◌≤◌, length};
-ghost use Rattle.memory.specs.Meaning.Refusals.{number_of};
 ghost use Rattle.machine.specs.Meaning.Tables.{tables_in};
 ghost use Rattle.pieces.specs.Meaning.Pieces.{Printed};
 ghost use Rattle.report.specs.Meaning.Text.{refusal_text, same_text, apart_in};
 ghost use Rattle.report.specs.Working.Tracing.{Small};
 
 use machine::{Pair, TablesRef};
-use memory::Refusal;
 use pieces::Text;
 
 // What is printed in front of a verdict.
@@ -37,11 +35,11 @@ pub enum Side {
 }
 
 // A refusal: its number, and nothing else.
-pub fn put_refusal(who: Side, reason: Refusal, text: &mut [u8]) -> usize
+pub fn put_refusal(who: Side, number: u8, text: &mut [u8]) -> usize
     requires { 40 ≤ length text.old }
-    ensures { Printed (refusal_text who (number_of reason)) text.new result }
+    ensures { Printed (refusal_text who number) text.new result }
 {
-    let n = usize::from(reason.number());
+    let n = usize::from(number);
     match who {
         Side::Old => pieces::put_line(b"REFUSED OLD ", n, text),
         Side::New => pieces::put_line(b"REFUSED NEW ", n, text),

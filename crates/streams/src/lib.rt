@@ -6,21 +6,18 @@ ghost use Rattle.std.specs.Prelude.{◌≤◌, ◌≡◌, length};
 ghost use Rattle.io.specs.Counts.{IsPrefixLen};
 ghost use Rattle.pieces.specs.Meaning.Pieces.{Printed};
 ghost use Rattle.streams.specs.Meaning.Input.{Within};
-ghost use Rattle.streams.specs.Meaning.Output.{stream_number};
 
 use std::io::Read;
 
-// Where an answer goes: to standard output or standard error, by the number that the system knows each by.
-#[derive(Clone, Copy)]
-pub enum Stream {
-    Stdout = 1,
-    Stderr = 2,
-}
+// Standard output and standard error, by the numbers that the system knows them by.
+pub const STDOUT: u8 = 1;
 
-// How many bytes are to go out, and where.
+pub const STDERR: u8 = 2;
+
+// How many bytes are to go out, and to which stream.
 #[derive(Clone, Copy)]
 pub struct Output {
-    pub stream: Stream,
+    pub stream: u8,
     pub length: usize,
 }
 
@@ -43,11 +40,11 @@ pub fn read_input<R: Read>(input: &mut R, room: &mut [u8]) -> Option<usize>
 // Puts the words that nothing could be read into a text; they go to standard error.
 pub fn put_unread(words: &[u8], text: &mut [u8]) -> Output
     requires { length words.now ≤ length text.old }
-    ensures { (stream_number result.stream ≡ 2) × (Printed words.now text.new result.length) }
+    ensures { (result.stream ≡ 2) × (Printed words.now text.new result.length) }
 {
     let length = pieces::put_message(words, text);
     Output {
-        stream: Stream::Stderr,
+        stream: STDERR,
         length,
     }
 }
@@ -57,6 +54,6 @@ pub fn write_output(sent: Output, text: &[u8], words: &[u8])
     requires { IsPrefixLen sent.length text.now }
 {
     if !io::write_all(sent.stream as i32, &text[..sent.length]) {
-        io::write_all(Stream::Stderr as i32, words);
+        io::write_all(STDERR as i32, words);
     }
 }

@@ -1,17 +1,10 @@
 -- What goes out of an input, and where.
---   stream_number o                  the number that the system knows the stream o by: 1 is standard output, 2 standard error
 --   Says words P room text' r i k    of the input i in the room, the first r bytes of text' are to go to stream k: the words, or what P says of the bytes read
 --   Sends words P i room text' k r   the same, and so many bytes there are
 -- P t text' k r says of a program that of the bytes t it sends the first r bytes of text' to stream k: to standard output, 1, or standard error, 2.
 use Rattle.std.specs.Prelude.{ℕ, List, take, Option, Some, None}
 use Rattle.io.specs.Counts.{IsPrefixLen}
 use Rattle.pieces.specs.Meaning.Pieces.{Printed}
-use Rattle.streams.specs.declared.Stream.{Stream}
-use Rattle.streams.specs.declared.Stream.TheVariants.{Stdout, Stderr}
-
-abbrev pub stream_number : Stream → ℕ
-stream_number Stdout = 1
-stream_number Stderr = 2
 
 -- nothing is answered of half an input
 pub data Says (words : List ℕ) (P : List ℕ → List ℕ → ℕ → ℕ → Type 0) (room text' : List ℕ) (r : ℕ) : Option ℕ → ℕ → Type 0 where
