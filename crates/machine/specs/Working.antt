@@ -5,3 +5,4 @@ pub mod Pairs
 pub mod Sets
 pub mod Answers
 pub mod Watched
+pub mod Beside

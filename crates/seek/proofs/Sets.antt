@@ -7,6 +7,7 @@ use Rattle.machine.specs.declared.Pair.{Pair}
 use Rattle.machine.specs.declared.Sizes.{Sizes}
 use Rattle.machine.specs.Meaning.Tables.{Tables, pairs, number, at, In, Ok, Flag, AlikeIn}
 use Rattle.machine.specs.Working.Pairs.{pair_at, DiffersIn, step_in}
+use Rattle.machine.specs.Working.Beside.{WithSome}
 use Rattle.machine.proofs.Lists.{complete_there, still_first_there}
 use Rattle.machine.proofs.Flags.{flag_one, flag_holds, flag_is, flag_there}
 use Rattle.flags.specs.Working.{Flagged, DiffersAt}
@@ -55,3 +56,6 @@ module _ (t : Tables) {d : List ℕ} (b : Begun t d) where
   -- and the search from there
   pub map_traces : {d' : List ℕ} {r : ℕ} → Searched t.sizes t.old.next t.new.next d d' r → MapOf t (DiffersIn t) d' r
   map_traces s = map_of t b.good b.flag s
+
+  pub with_begun : WithSome t.sizes t.old.next t.new.next (λ (u : Tables). Begun u d)
+  with_begun = record { out0 = t.old.out; seen0 = t.old.seen; out1 = t.new.out; seen1 = t.new.seen; has = b }

@@ -26,7 +26,13 @@ use Rattle.machine.specs.Meaning.Tables.{Tables}
 use Rattle.machine.specs.Meaning.Allowed.{every_vector, WrongAllowed}
 use Rattle.machine.specs.Meaning.Faults.{OutOfRange, TooShort, LeadsOut, leads, TablesFault, VectorsFault}
 use Rattle.machine.proofs.Allowed.{ones_right, wrong_beyond, right_within}
-use Rattle.table_faults.specs.Working.{InRange, LongEnough, Stays}
+use Rattle.machine.specs.Working.Beside.{WithEach}
+use Rattle.table_faults.specs.declared.NextStates.{NextStates}
+use Rattle.table_faults.specs.Working.{Measured, ForTablesIn, TakenFrom, InRange, LongEnough, Stays}
+
+-- what holds whatever is in the other tables holds of the tables from which the next states were taken
+pub at_tables : {t : Tables} {s : NextStates} {P : Tables → Type 0} → TakenFrom t s → ForTablesIn s P → P t
+at_tables {t} {s} {P} w f = let e : WithEach t.sizes t.old.next t.new.next (λ u. Measured s.old_shown s.new_shown u → P u) = rw (w.sizes, w.old_next, w.new_next) at f in e.each t.old.out t.old.seen t.new.out t.new.seen w.shown
 
 range_no : {z : Sizes} → InRange z → OutOfRange z → ⊥
 range_no r (OutOfRange.old_none e) = omega (arith, r.some_old)
@@ -36,10 +42,17 @@ range_no r (OutOfRange.new_many h) = omega (arith, r.few_new)
 range_no r (OutOfRange.vectors_none e) = omega (arith, r.some_vectors)
 range_no r (OutOfRange.vectors_many h) = omega (arith, r.few_vectors)
 
-long_no : {t : Tables} {room : ℕ} → LongEnough t room → TooShort t room → ⊥
-long_no r (TooShort.old h) = not_lt r.old h
-long_no r (TooShort.new h) = not_lt r.new h
-long_no r (TooShort.lent h) = not_lt r.lent h
+-- no table is too short, and no slice of one entry a pair
+pub record Long (t : Tables) (room : ℕ) : Type 0 where
+  pub none : TooShort t room → ⊥
+
+pub long : {t : Tables} {s : NextStates} {room : ℕ} → TakenFrom t s → LongEnough s room → Long t room
+long {t} {s} {room} w r = record { none = go }
+  where
+    go : TooShort t room → ⊥
+    go (TooShort.old h) = not_lt r.old (rw (← w.sizes, ← w.old_next, w.shown.old) at h)
+    go (TooShort.new h) = not_lt r.new (rw (← w.sizes, ← w.new_next, w.shown.new) at h)
+    go (TooShort.lent h) = not_lt r.lent (rw (← w.sizes) at h)
 
 stays_no : {s v : ℕ} {n : List ℕ} → Stays s v n → LeadsOut s v n → ⊥
 stays_no r (leads i h l) = not_lt l (r.stays i h)
@@ -84,9 +97,9 @@ module _ {t : Tables} {room : ℕ} where
   past_11 r (TablesFault.old_leads o) = omega arith
   past_11 r (TablesFault.new_leads o) = omega arith
 
-  past_12 : InRange t.sizes → LongEnough t room → {m : ℕ} → TablesFault t room m → 13 ≤ m
+  past_12 : InRange t.sizes → Long t room → {m : ℕ} → TablesFault t room m → 13 ≤ m
   past_12 r l (TablesFault.range o) = absurd (range_no r o)
-  past_12 r l (TablesFault.short o) = absurd (long_no l o)
+  past_12 r l (TablesFault.short o) = absurd (l.none o)
   past_12 r l (TablesFault.old_leads o) = omega arith
   past_12 r l (TablesFault.new_leads o) = omega arith
 
@@ -100,15 +113,15 @@ module _ {t : Tables} {room : ℕ} where
   pub at_12 : InRange t.sizes → TooShort t room → First (TablesFault t room) 12
   at_12 r o = lowest (TablesFault.short o) (λ m f. past_11 r f)
 
-  pub at_13 : InRange t.sizes → LongEnough t room → TablesFault t room 13 → First (TablesFault t room) 13
+  pub at_13 : InRange t.sizes → Long t room → TablesFault t room 13 → First (TablesFault t room) 13
   at_13 r l o = lowest o (λ m f. past_12 r l f)
 
-  pub at_none : InRange t.sizes → LongEnough t room → Stays t.sizes.old t.sizes.vectors t.old.next → Stays t.sizes.new t.sizes.vectors t.new.next → Free (TablesFault t room)
+  pub at_none : InRange t.sizes → Long t room → Stays t.sizes.old t.sizes.vectors t.old.next → Stays t.sizes.new t.sizes.vectors t.new.next → Free (TablesFault t room)
   at_none r l a b m f = go f
     where
       go : {m : ℕ} → TablesFault t room m → ⊥
       go (TablesFault.range o) = range_no r o
-      go (TablesFault.short o) = long_no l o
+      go (TablesFault.short o) = l.none o
       go (TablesFault.old_leads o) = stays_no a o
       go (TablesFault.new_leads o) = stays_no b o
 

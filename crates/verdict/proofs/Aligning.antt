@@ -17,7 +17,8 @@ use Rattle.machine.specs.declared.Sizes.{Sizes}
 use Rattle.machine.specs.Meaning.Lists.{Each, run}
 use Rattle.machine.specs.Meaning.Machine.{Machine}
 use Rattle.machine.specs.Meaning.Pick.{after}
-use Rattle.machine.specs.Meaning.Tables.{Tables, pairs, number, at, In, Ok, old_machine, new_machine, AlikeIn}
+use Rattle.memory.specs.Meaning.Tables.{table_of}
+use Rattle.machine.specs.Meaning.Tables.{Tables, tables_of, pairs, number, at, In, Ok, old_machine, new_machine, AlikeIn}
 use Rattle.machine.specs.Meaning.Verdict.{May, LowestOpen, Rounds, done, more, AllAlign}
 use Rattle.machine.specs.Working.Pairs.{pair_at, step_in, ListAfterIn}
 use Rattle.machine.proofs.Answers.{run-pair}
@@ -37,6 +38,16 @@ use Rattle.verdict.specs.Working.Deciding.{SameIn, OpenAt, Reached, Follows, Add
 -- how many pairs of power-up states a list does not lead to a pair for which the map holds 1
 abbrev pub open_pairs : Tables → List ℕ → List ℕ → ℕ
 open_pairs t reach l = unaligned (old_machine t) (new_machine t) t.sizes (λ p. eqb (at t.sizes reach p) 1) l
+
+-- the tables t with other outputs and watched values
+abbrev pub showing : Tables → List ℕ → List ℕ → List ℕ → List ℕ → Tables
+showing t out0 seen0 out1 seen1 = tables_of t.sizes (table_of t.old.next out0 seen0) (table_of t.new.next out1 seen1)
+
+-- which play no part in how many pairs are open
+pub fewer_open : (t : Tables) (out0 seen0 out1 seen1 reach l l' : List ℕ)
+    → open_pairs (showing t out0 seen0 out1 seen1) reach l < open_pairs (showing t out0 seen0 out1 seen1) reach l' → open_pairs t reach l < open_pairs t reach l'
+unfolding unaligned
+fewer_open t out0 seen0 out1 seen1 reach l l' h = h
 
 module _ (t : Tables) where
   abbrev z : Sizes

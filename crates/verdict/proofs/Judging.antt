@@ -4,11 +4,12 @@ use mathlib.Core.Logic.{◌⊎◌, inl, inr, ⊎_elim}
 use mathlib.Core.List.{List}
 use Prim.Native.Nat.{ℕ, ◌≤◌, min}
 use native.Mathlib.Omega.{arith}
-use lib.ListN.{length}
+use lib.ListN.{length, replicate, length-replicate}
 use Rattle.memory.specs.Meaning.Orders.{table_order}
 use Rattle.memory.specs.Meaning.Refusals.{number_of, Free, First, Keeps, reply_of}
 use Rattle.memory.specs.Meaning.Slices.{Zero, Cleared}
 use Rattle.memory.specs.Working.Lowest.{place_in}
+use Rattle.memory.proofs.Filling.{all_same}
 use Rattle.memory.proofs.Places.{place_last}
 use Rattle.memory.proofs.Refusals.{first_then, keeps_second}
 use Rattle.machine.specs.Meaning.Tables.{Tables, pairs, Ok, old_machine, new_machine}
@@ -16,7 +17,9 @@ use Rattle.machine.specs.Meaning.Faults.{VectorsFault}
 use Rattle.machine.specs.Meaning.Lent.{Lent, left_of, scratch_of}
 use Rattle.places.specs.Working.{Good}
 use Rattle.seek.specs.Working.Steps.{Both, MapCounts}
-use Rattle.table_faults.proofs.Refusals.{vectors_place}
+use Rattle.table_faults.specs.declared.NextStates.{NextStates}
+use Rattle.table_faults.specs.Working.{ForTablesIn, TakenFrom}
+use Rattle.table_faults.proofs.Refusals.{at_tables, vectors_place}
 use Rattle.seek.proofs.Accepted.{good, room_enough}
 use Rattle.std.proofs.Common.{Result, Err}
 use Rattle.memory.specs.declared.Refusal.{Refusal}
@@ -27,7 +30,15 @@ use Rattle.verdict.specs.Meaning.Promise.{JudgeFault, call, list, Judges}
 use Rattle.verdict.specs.Working.Deciding.{Mapped, Settled, Beside, WithCounts}
 use Rattle.verdict.proofs.Tallies.{map_counts}
 
--- a call that is not turned away: tables and scratch of a and b entries serve for both maps
+-- a slice that was filled with 0
+pub zeros : {l : List ℕ} (n : ℕ) → l ≡ replicate n 0 → Cleared n l
+zeros n e = rw e (record { size = length-replicate {A = ℕ} n 0; zero = λ k h. all_same 0 n k })
+
+-- a call that is not turned away
+pub accepted : {t : Tables} {s : NextStates} {room n : ℕ} → TakenFrom t s → room ≡ n → ForTablesIn s (λ u. Free (VectorsFault u room)) → Free (VectorsFault t n)
+accepted w e f = rw e at (at_tables w f)
+
+-- its tables and scratch of a and b entries serve for both maps
 module _ {t : Tables} {a b : ℕ} (none : Free (VectorsFault t (min a b))) where
   pub enough : {n m : ℕ} → n ≡ a → m ≡ b → Good t × ((pairs t.sizes ≤ n) × (pairs t.sizes ≤ m))
   enough d r = let h = room_enough none in (good none, (omega arith, omega arith))

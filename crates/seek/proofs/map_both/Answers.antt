@@ -7,15 +7,17 @@ use Rattle.seek.proofs.Sets.{begun_one, map_traces, map_lists}
 use Rattle.seek.proofs.map_both.Goals as goal
 
 pub search-requires-clause-by_index : goal.search-requires-clause-by_index
-search-requires-clause-by_index c = begun_one _ c.requires.begun
+search-requires-clause-by_index c = begun_one _ c.requires.with_some.has
 
 pub put-requires-clause-by_index : goal.put-requires-clause-by_index
-put-requires-clause-by_index c = λ q h. traces_fit _ c.requires.begun.good (map_traces _ c.requires.begun c.search.ensures.searched).complete q (omega (arith, c.total-end.ensures.0))
+put-requires-clause-by_index c = λ q h. traces_fit _ c.requires.with_some.has.good (map_traces _ c.requires.with_some.has c.search.ensures.searched).complete q (omega (arith, c.total-end.ensures.0))
 
-pub returns-clause-both : goal.returns-clause-both
-returns-clause-both c =
-    let m = (map_traces _ c.requires.begun c.search.ensures.searched).complete in
-    record { traces = map_copied _ m (written_end c.total-end.ensures.0 c.put.ensures); alike = map_lists _ c.requires.begun.good m c.map_lists-lowest.ensures.to_zeros }
+pub returns-clause-with_each : goal.returns-clause-with_each
+returns-clause-with_each c = record {
+  each = λ out0 seen0 out1 seen1 b.
+      let m = (map_traces _ b c.search.ensures.searched).complete in
+      record { traces = map_copied _ m (written_end c.total-end.ensures.0 c.put.ensures); alike = map_lists _ b.good m c.map_lists-lowest.ensures.to_zeros };
+}
 
 pub returns-clause-map_counts : goal.returns-clause-map_counts
 returns-clause-map_counts c =
