@@ -32,9 +32,9 @@ pub(crate) struct Answer {
 }
 
 impl Answer {
-    pub(crate) fn refused(reason: Refusal) -> Answer {
+    pub(crate) fn refused(number: u8) -> Answer {
         Answer {
-            refused: Some(reason.number()),
+            refused: Some(number),
             ..Answer::default()
         }
     }
@@ -110,7 +110,7 @@ fn told<T, F: FnOnce(T) -> Answer>(answer: Result<T, Refusal>, accepted: F) -> A
 {
     match answer {
         Ok(value) => accepted(value),
-        Err(reason) => Answer::refused(reason),
+        Err(reason) => Answer::refused(reason.number()),
     }
 }
 

@@ -6,7 +6,6 @@ use crate::lists::{STEPS, Set, Walk, has};
 use crate::show;
 use crate::tables::{Machines, pair_at};
 use crate::tally::Tally;
-use memory::Refusal;
 
 // The bytes of the longest slice that is lent: more than marks or the longest list need.
 pub(crate) const ROOM: usize = STEPS;
@@ -99,21 +98,21 @@ fn compare_verdict(m: &Machines, known: &Answers, tally: &mut Tally) {
 // A list with room to spare, in a slice that it just fits, and in one a byte short; or that there is none.
 fn compare_rooms(m: &Machines, question: Question, wanted: Option<Told>, tally: &mut Tally) {
     let Some(wanted) = wanted else {
-        compare_lent(m, question, &refused(Refusal::NothingSought), ROOM, tally);
+        compare_lent(m, question, &refused(15), ROOM, tally);
         return;
     };
     let steps = wanted.answer.steps;
     compare_lent(m, question, &wanted, ROOM, tally);
     compare_lent(m, question, &wanted, steps, tally);
     if steps > 0 {
-        compare_lent(m, question, &refused(Refusal::ShortList), steps - 1, tally);
+        compare_lent(m, question, &refused(16), steps - 1, tally);
     }
 }
 
-// A refusal, beside which the slice is cleared.
-fn refused(reason: Refusal) -> Told {
+// A refusal, beside which the slice is cleared. By its number and not as a `Refusal`, so that a wrong number of a refusal shows.
+fn refused(number: u8) -> Told {
     Told {
-        answer: Answer::refused(reason),
+        answer: Answer::refused(number),
         bytes: [0; ROOM],
     }
 }

@@ -5,7 +5,7 @@ use mathlib.Core.Logic.{inl, inr}
 use mathlib.Core.List.{List}
 use native.Mathlib.Omega.{arith}
 use Rattle.limits.specs.declared.DesignSizes.{DesignSizes}
-use Rattle.limits.specs.Working.Over.{Over}
+use Rattle.limits.specs.Meaning.Over.{Over}
 use Rattle.format.specs.declared.header.Header.{Header}
 use Rattle.limits.specs.Meaning.Layout.{bits_for, bytes_for}
 use Rattle.format.specs.Meaning.Format.{nets_in, bits_in, bytes_in}

@@ -1,10 +1,11 @@
 // The fields of an image, each where the format has it.
-ghost use Rattle.std.specs.Prelude.{◌≡◌, ◌^◌, ◌<◌};
-ghost use Rattle.limits.specs.Meaning.Layout.{count_bits, net_bits};
+ghost use Rattle.std.specs.Prelude.{◌≡◌, cond, eqb, ◌^◌, ◌<◌};
+ghost use Rattle.limits.specs.Meaning.Layout.{count_bits, net_bits, nets_each};
 ghost use Rattle.format.specs.Meaning.Format.{count_in, tail_in};
 ghost use Rattle.format.specs.Working.Scanning.{SpellsHeader, SpellsCell};
 
-use crate::header::{Header, tail_at};
+pub use crate::header::Header;
+use crate::header::tail_at;
 use limits::Image;
 
 pub fn header_of(image: &[u8]) -> Header
@@ -18,6 +19,24 @@ pub fn header_of(image: &[u8]) -> Header
         latches: taken.third,
         outputs: taken.fourth,
         count: taken.fifth,
+    }
+}
+
+// How many nets a flip-flop has in an image of a version.
+pub fn nets_each(version: u16) -> usize
+    ensures { result ≡ nets_each version }
+{
+    if version == 2 { Image::LATCH_NETS } else { 1 }
+}
+
+// How many of so many flip-flops have their enable and clear nets in an image of a version.
+pub fn three_net_latches(version: u16, latches: u16) -> usize
+    ensures { result ≡ cond (eqb version 2) latches 0 }
+{
+    if version == 2 {
+        usize::from(latches)
+    } else {
+        0
     }
 }
 

@@ -4,6 +4,7 @@ ghost use Rattle.limits.specs.Meaning.Layout.{count_bits, net_bits, nets_each, t
 ghost use Rattle.format.specs.Meaning.Format.{cell_at};
 ghost use Rattle.format.specs.Working.Widths.{Narrow};
 
+use crate::fields;
 use limits::{DesignSizes, Image};
 
 // The fields of the header, none of them wider than the format has it.
@@ -40,22 +41,14 @@ impl Header {
     pub fn nets_each(self) -> usize
         ensures { result ≡ nets_each self.version }
     {
-        if self.version == 2 {
-            Image::LATCH_NETS
-        } else {
-            1
-        }
+        fields::nets_each(self.version)
     }
 
     // How many flip-flops have their enable and clear nets in the image.
     pub fn three_net_latches(self) -> usize
         ensures { result ≡ cond (eqb self.version 2) self.latches 0 }
     {
-        if self.version == 2 {
-            usize::from(self.latches)
-        } else {
-            0
-        }
+        fields::three_net_latches(self.version, self.latches)
     }
 
     // How many nets stand behind the cells.

@@ -5,3 +5,5 @@ pub mod faults;
 pub mod fields;
 pub mod header;
 pub mod version;
+
+pub use header::Header;

@@ -2,3 +2,4 @@
 pub mod Limits
 pub mod Layout
 pub mod Bounds
+pub mod Over

@@ -3,7 +3,7 @@
 
 ghost use Rattle.std.specs.Prelude.{◌↔◌, IsTrue};
 ghost use Rattle.limits.specs.Meaning.Bounds.{AreLimits};
-ghost use Rattle.limits.specs.Working.Over.{Over};
+ghost use Rattle.limits.specs.Meaning.Over.{Over};
 
 // The image format: the limits of its sizes, the widths of its fields and the bytes of the largest image, named once.
 #[derive(Clone, Copy)]

@@ -137,7 +137,7 @@ module _ {m : ℕ} {s r q : List ℕ} {n v k : ℕ} {l : List ℕ} (p : Rowed m 
       let w = f.ended e in
       let g = grown w.0 w.1.number w.2 in
       let x = led_ends p.led w.1 in
-      rw (← es) (record { size = rw x.0 (sym g.1); few = omega arith; fine = rw x.0 g.0; numbered = rw x.0 g.2 }, x.1 ∙ eq, h)
+      rw (← es) (record { size = rw x.0 (sym g.1); any = omega arith; few = omega arith; fine = rw x.0 g.0; numbered = rw x.0 g.2 }, x.1 ∙ eq, h)
 
 -- the line goes on behind three numbers
 pub rowed_long : {m : ℕ} {s r l : List ℕ} → Rowed m s r 3 l → RowFault m (words s)

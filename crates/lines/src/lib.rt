@@ -17,7 +17,7 @@ pub struct Row {
     pub end: usize,
 }
 
-// The line of up to three numbers up to `most` at a place, if there is one.
+// The line of one to three numbers up to `most` at a place, if there is one.
 pub fn scan(text: &[u8], at: usize, most: u16) -> Option<Row>
     requires { (at ≤ length text.now) × (most < cap) }
     ensures { RowAt most text.now at result }

@@ -13,10 +13,10 @@ ghost use Rattle.netlist.specs.Meaning.Nets.{gate_at};
 ghost use Rattle.netlist.specs.Working.Sound.{Sound};
 ghost use Rattle.packing.specs.Working.{joined, Heads, header_word, cell_word, latch_net, tail_net, Packs};
 
-use format::header::Header;
+use format::Header;
 use limits::Image;
 use netlist::{Design, Gate};
-use words::Words;
+pub use words::Words;
 
 // The header, the cells and the nets behind them of a design, packed.
 pub fn words_of(d: Design, h: Header) -> Words

@@ -1,7 +1,7 @@
 -- A design has 3 where one of its sizes is over its limit.
 use mathlib.Core.Logic.{inl, inr}
 use Rattle.limits.specs.declared.DesignSizes.{DesignSizes}
-use Rattle.limits.specs.Working.Over.{Over}
+use Rattle.limits.specs.Meaning.Over.{Over}
 use Rattle.netlist.specs.declared.Design.{Design}
 use Rattle.netlist.specs.Meaning.Faults.{DesignFault}
 

@@ -7,7 +7,7 @@ ghost use Rattle.memory.specs.Meaning.Tables.{held_in, lengths_of, SameTable};
 ghost use Rattle.simulator.specs.Meaning.Clock.{Clocks};
 ghost use Rattle.simulator.specs.Meaning.Tables.{Tabulates, TabulatesBoth};
 
-use evaluator::Stepped;
+pub use evaluator::Stepped;
 use memory::{Refusal, TableMut};
 use netlist::Design;
 

@@ -1,10 +1,9 @@
 // Printing: answers, and slices with runs of one value in short.
 use engine::AlikeCount;
-use evaluator::Stepped;
 use image::Reading;
 use memory::{Refusal, Scratch, TableMut};
 use order::Plan;
-use simulator::{BothSizes, TableSizes};
+use simulator::{BothSizes, Stepped, TableSizes};
 use verdict::{Judged, Verdict};
 
 pub(crate) fn word(text: &[u8]) {

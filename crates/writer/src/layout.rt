@@ -9,11 +9,10 @@ ghost use Rattle.writer.specs.Meaning.Writing.{HoldsImage};
 ghost use Rattle.packing.specs.Working.{Heads};
 ghost use Rattle.writer.specs.Working.Words.{words_bit, words_byte};
 
-use format::header::Header;
-use format::version;
+use format::{Header, version};
 use limits::Image;
 use netlist::Design;
-use packing::words::Words;
+use packing::Words;
 
 // The header of the image of a design.
 pub(crate) fn header(d: Design) -> Header

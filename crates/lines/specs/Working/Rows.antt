@@ -26,6 +26,7 @@ Numbered l ws = (i : ℕ) → get_or l i 0 ≡ value (get_or ws i [])
 
 pub record RowGood (m : ℕ) (ws : List (List ℕ)) (r : Row) : Type 0 where
   pub size : r.count ≡ length ws
+  pub any : 0 < r.count
   pub few : r.count ≤ 3
   pub fine : Fine m ws
   pub numbered : Numbered r.numbers ws
