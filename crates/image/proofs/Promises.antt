@@ -16,5 +16,5 @@ pub turned_head : (b : List ℕ) {n : ℕ} → First (HeaderFault b) n → First
 turned_head b h = first_early (HeaderFault b) (ImageFault b) 5 image_numbered (λ m f. f.0) (λ m f l. (f, omega arith)) (omega (arith, h.applies.1)) h
 
 -- a refusal with the first number, and the empty design beside it
-pub turned_away : (b : List ℕ) (n : Refusal) (r : Reading) → First (ImageFault b) (number_of n) → r.answer ≡ Err n → r.design ≡ empty_design → ReadsImage b r
+pub turned_away : (b : List ℕ) (n : Refusal) (r : Reading Refusal) → First (ImageFault b) (number_of n) → r.answer ≡ Err n → r.design ≡ empty_design → ReadsImage b r
 turned_away b n r f a e = record { keeps = rw a (f, e) }
