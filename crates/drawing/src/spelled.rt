@@ -17,21 +17,21 @@ impl SpelledDrawing {
     ghost use Rattle.drawing.specs.Working.Wiring.{literals};
 
     // How many literals are own ones.
-    pub(crate) fn owns(&self) -> usize
+    pub fn owns(&self) -> usize
         ensures { result ≡ owns self.now.drawing }
     {
         self.drawing.inputs + self.drawing.latches + self.drawing.ands
     }
 
     // How many literals are read.
-    pub(crate) fn reads(&self) -> usize
+    pub fn reads(&self) -> usize
         ensures { result ≡ reads self.now.drawing }
     {
         self.drawing.latches + self.drawing.outputs + self.drawing.ands + self.drawing.ands
     }
 
     // Own literal p: of the inputs, then of the flip-flops, then of the ANDs.
-    pub(crate) fn own_literal(&self, p: usize) -> usize
+    pub fn own_literal(&self, p: usize) -> usize
         requires { p < owns self.now.drawing }
         ensures { (result ≡ own self.now.drawing p) × (result < literals) }
     {
